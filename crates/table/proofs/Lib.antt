@@ -1,0 +1,4 @@
+pub mod Arithmetic
+pub mod Every
+pub mod Sums
+pub mod Suffix

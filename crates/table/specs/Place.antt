@@ -1,0 +1,30 @@
+-- The table in a place. A place (document 01's term) is room for one table on the desk.
+use Prim.Native.Nat.{ℕ, zero, suc}
+use mathlib.Core.Bool.{false}
+use mathlib.Core.List.{[], _∷_}
+use lib.ListN.{getD, replicate}
+use Rattle.table.specs.Table.{Table, Grade}
+use Rattle.table.specs.declared.Place.{Place}
+
+-- a place of a fresh desk
+abbrev pub fresh : Place
+fresh =
+    record {
+      obligors = replicate 40 0;
+      defaults = replicate 40 0;
+      announced = replicate 40 0;
+      grades = 0;
+      loaded = false;
+    }
+
+-- grade i, the best being 0
+abbrev pub gradeAt : Place → ℕ → Grade
+gradeAt p i = record { obligors = getD (p .obligors) i 0; defaults = getD (p .defaults) i 0; announced = getD (p .announced) i 0 }
+
+-- k grades, from grade i on
+unfoldable pub gradesFrom : Place → ℕ → ℕ → Table
+gradesFrom p i zero = []
+gradesFrom p i (suc k) = gradeAt p i ∷ gradesFrom p (suc i) k
+
+abbrev pub tableOf : Place → Table
+tableOf p = gradesFrom p 0 (p .grades)

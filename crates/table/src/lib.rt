@@ -1,0 +1,107 @@
+// A grade table in a place of the desk, its counts and its totals.
+ghost use Prim.Native.Nat.{_+_, _-_, _≤_};
+ghost use mathlib.Core.Path.{_≡_};
+ghost use Rattle.table.specs.Table.{Sound};
+ghost use Rattle.table.specs.Place.{fresh, tableOf};
+ghost use Rattle.table.specs.Counts.{largest, held, totalsOf};
+
+// The most grades of a table.
+pub const GRADES: usize = 40;
+
+// The most obligors of a table.
+pub const OBLIGORS: u32 = 1_000_000;
+
+// A number of obligors. No sum joins it with survivors: the types differ, and `with_defaults` is the one way across.
+pub struct Obligors(pub u32);
+
+// A number of obligors that did not default.
+pub struct Survivors(pub u32);
+
+impl Obligors {
+    pub fn plus(self, more: Obligors) -> Obligors
+        requires { ⌜ self .0 + more .0 ≤ largest ⌝ }
+        ensures { λ r. ⌜ r .0 ≡ self .0 + more .0 ⌝ }
+    {
+        Obligors(self.0 + more.0)
+    }
+
+    // Those who are left without the defaults.
+    pub fn survivors(self, defaults: u32) -> Survivors
+        requires { ⌜ defaults ≤ self .0 ⌝ }
+        ensures { λ r. ⌜ r .0 ≡ self .0 - defaults ⌝ }
+    {
+        Survivors(self.0 - defaults)
+    }
+}
+
+impl Survivors {
+    pub fn plus(self, more: Survivors) -> Survivors
+        requires { ⌜ self .0 + more .0 ≤ largest ⌝ }
+        ensures { λ r. ⌜ r .0 ≡ self .0 + more .0 ⌝ }
+    {
+        Survivors(self.0 + more.0)
+    }
+
+    // The conversion: survivors and defaults together are the obligors. Where a u32 cannot hold them, the largest one.
+    pub fn with_defaults(self, defaults: u32) -> Obligors
+        ensures { λ r. ⌜ r .0 ≡ held (self .0 + defaults) ⌝ }
+    {
+        if self.0 <= 4_294_967_295 - defaults {
+            Obligors(self.0 + defaults)
+        } else {
+            Obligors(4_294_967_295)
+        }
+    }
+}
+
+// D, S and N of a table.
+pub struct Totals {
+    pub defaults: u32,
+    pub survivors: Survivors,
+    pub obligors: Obligors,
+}
+
+// A place of the desk (document 01's term): room for one table. Grade i, the best being 0, stands at index i of each array.
+pub struct Place {
+    pub obligors: [u32; GRADES],
+    pub defaults: [u32; GRADES],
+    // The announced default rates (document 01's term) in ppm: those that the rater published beforehand.
+    pub announced: [u32; GRADES],
+    pub grades: usize,
+    pub loaded: bool,
+}
+
+impl Place {
+    // A place as it is on a fresh desk.
+    pub fn empty() -> Place
+        ensures { λ r. ⌜ r ≡ fresh ⌝ }
+    {
+        Place {
+            obligors: [0; GRADES],
+            defaults: [0; GRADES],
+            announced: [0; GRADES],
+            grades: 0,
+            loaded: false,
+        }
+    }
+
+    // The totals of the table in a place.
+    pub fn totals(self) -> Totals
+        requires { ⌜ Sound (tableOf self) ⌝ }
+        ensures { λ r. ⌜ r ≡ totalsOf (tableOf self) ⌝ }
+    {
+        let mut i = self.grades;
+        let mut defaults: u32 = 0;
+        let mut obligors = Obligors(0);
+        while 0 < i {
+            i -= 1;
+            defaults += self.defaults[i];
+            obligors = obligors.plus(Obligors(self.obligors[i]));
+        }
+        Totals {
+            defaults,
+            survivors: obligors.survivors(defaults),
+            obligors,
+        }
+    }
+}
