@@ -1,4 +1,6 @@
 pub mod Arithmetic
+pub mod Test
 pub mod Every
 pub mod Sums
 pub mod Suffix
+pub mod Placed

@@ -6,7 +6,7 @@ use native.Mathlib.Numerals.{add-one}
 use native.Mathlib.Omega.{arith}
 use lib.ListN.{length}
 use Rattle.table.specs.declared.Place.{Place}
-use Rattle.table.specs.Table.{Table, Grade, Every, Occupied, Counted, Rated, Sound, survivors, defaultsIn, survivorsIn, obligorsIn}
+use Rattle.table.specs.Table.{Table, Grade, Every, Occupied, Counted, Rated, Sound, defaultsIn, survivorsIn, obligorsIn}
 use Rattle.table.specs.Place.{gradeAt, gradesFrom, tableOf}
 use Rattle.table.proofs.Sums.{obligors-split}
 
@@ -53,11 +53,14 @@ obligors-suffix p (suc i) h =
     let l : i < p .grades = omega arith in
     omega (arith, rw (suffix-at p i, add-one) at (obligors-suffix p i (omega arith)))
 
--- What the totals of a suffix of a sound table are at most.
+-- What the totals of a sound table, and of its suffixes, are at most.
 pub record Small (t : Table) : Type 0 where
   pub grades : length t ≤ 40
   pub obligors : obligorsIn t ≤ 1_000_000
   pub split : obligorsIn t ≡ defaultsIn t + survivorsIn t
+
+pub sound-small : {t : Table} → Sound t → Small t
+sound-small {t} sound = record { grades = sound .few; obligors = sound .total; split = obligors-split t (sound .counted) }
 
 pub small : (p : Place) (i : ℕ) → Sound (tableOf p) → i ≤ p .grades → Small (suffix p i)
 small p i sound h = record {

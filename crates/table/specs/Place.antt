@@ -1,8 +1,8 @@
 -- The table in a place. A place (document 01's term) is room for one table on the desk.
-use Prim.Native.Nat.{ℕ, zero, suc}
-use mathlib.Core.Bool.{false}
-use mathlib.Core.List.{[], _∷_}
-use lib.ListN.{getD, replicate}
+use Prim.Native.Nat.{ℕ, zero, suc, _-_}
+use mathlib.Core.Bool.{true, false}
+use mathlib.Core.List.{List, [], _∷_, _++_, map}
+use lib.ListN.{length, getD, replicate}
 use Rattle.table.specs.Table.{Table, Grade}
 use Rattle.table.specs.declared.Place.{Place}
 
@@ -28,3 +28,22 @@ gradesFrom p i (suc k) = gradeAt p i ∷ gradesFrom p (suc i) k
 
 abbrev pub tableOf : Place → Table
 tableOf p = gradesFrom p 0 (p .grades)
+
+-- a grade that nothing was stored in
+abbrev pub blank : Grade
+blank = record { obligors = 0; defaults = 0; announced = 0 }
+
+-- one column of a table in an array of 40: 0 behind the last grade
+abbrev pub column : (Grade → ℕ) → Table → List ℕ
+column f t = map f t ++ replicate (40 - length t) 0
+
+-- the place that holds a table
+unfoldable pub placeOf : Table → Place
+placeOf t =
+    record {
+      obligors = column (λ g. g .obligors) t;
+      defaults = column (λ g. g .defaults) t;
+      announced = column (λ g. g .announced) t;
+      grades = length t;
+      loaded = true;
+    }

@@ -1,0 +1,64 @@
+-- Joining keeps the counts: the blocks hold all grades, obligors and defaults of the table, and are occupied and counted as its grades are.
+use Prim.Native.Nat.{ℕ, zero, suc, _≤_}
+use mathlib.Core.Path.{_≡_, refl, ap, sym, _∙_}
+use mathlib.Core.List.{List, [], _∷_, map}
+use native.Mathlib.Nat.{add-assoc}
+use native.Mathlib.Numerals.{one-add}
+use native.Mathlib.Omega.{arith}
+use lib.ListN.{drop}
+use Rattle.table.specs.Table.{Table, Every, Occupied, Counted, defaultsIn, obligorsIn}
+use Rattle.pooling.specs.Pool.{Block, single, join, front, pool, asGrade, pooledScale, blockOf}
+use Rattle.pooling.proofs.Front.{front-cases, pool-every}
+
+-- all of some blocks as one
+unfoldable pub sumOf : List Block → Block
+sumOf [] = record { grades = 0; obligors = 0; defaults = 0 }
+sumOf (b ∷ bs) = join b (sumOf bs)
+
+join-assoc : (a b c : Block) → join (join a b) c ≡ join a (join b c)
+join-assoc a b c = simp add-assoc
+
+pub sum-front : (b : Block) (bs : List Block) → sumOf (front b bs) ≡ join b (sumOf bs)
+unfolding sumOf front
+sum-front b [] = refl
+sum-front b (c ∷ bs) =
+    front-cases (λ l. sumOf l ≡ join b (join c (sumOf bs))) b c bs
+    (λ _. refl)
+    (λ _. sum-front (join b c) bs ∙ join-assoc b c (sumOf bs))
+
+pub sum-pool : (t : Table) → sumOf (pool t) ≡ blockOf t
+unfolding sumOf pool obligorsIn defaultsIn
+sum-pool [] = refl
+sum-pool (r ∷ t) = sum-front (single r) (pool t) ∙ rw (sum-pool t, one-add)
+
+-- A block before others that pools a table holds, with them, all of the table.
+pub sum-all : (b : Block) (bs : List Block) (t : Table) → front b bs ≡ pool t → join b (sumOf bs) ≡ blockOf t
+sum-all b bs t e = sym (sum-front b bs) ∙ ap sumOf e ∙ sum-pool t
+
+-- Some of the blocks have no more grades than all.
+pub grades-drop : (bs : List Block) (m : ℕ) → sumOf (drop m bs) .grades ≤ sumOf bs .grades
+unfolding sumOf
+grades-drop bs zero = omega arith
+grades-drop [] (suc m) = omega arith
+grades-drop (b ∷ bs) (suc m) = omega (arith, grades-drop bs m)
+
+-- The pooled scale has the totals of the table.
+
+scale-totals : (bs : List Block) → (obligorsIn (map asGrade bs) ≡ sumOf bs .obligors) × (defaultsIn (map asGrade bs) ≡ sumOf bs .defaults)
+unfolding sumOf obligorsIn defaultsIn
+scale-totals [] = (refl, refl)
+scale-totals (b ∷ bs) = let (n, d) = scale-totals bs in (rw n, rw d)
+
+pub pooled-totals : (t : Table) → (obligorsIn (pooledScale t) ≡ obligorsIn t) × (defaultsIn (pooledScale t) ≡ defaultsIn t)
+pooled-totals t =
+    let (n, d) = scale-totals (pool t) in
+    let e = sum-pool t in
+    (n ∙ ap (λ b. b .obligors) e, d ∙ ap (λ b. b .defaults) e)
+
+-- Every block.
+
+pub blocks-occupied : (t : Table) → Every Occupied t → Every (λ b. 1 ≤ b .obligors) (pool t)
+blocks-occupied t h = pool-every (λ b. 1 ≤ b .obligors) (λ b c p q. omega arith) t h
+
+pub blocks-counted : (t : Table) → Every Counted t → Every (λ b. b .defaults ≤ b .obligors) (pool t)
+blocks-counted t h = pool-every (λ b. b .defaults ≤ b .obligors) (λ b c p q. omega arith) t h

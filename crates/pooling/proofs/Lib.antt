@@ -1,0 +1,15 @@
+pub mod Front
+pub mod Joined
+pub mod Scale
+pub mod Runs
+pub mod Scaled
+pub mod Pooled
+pub mod Inner
+pub mod Parts
+pub mod LeastSquares
+pub mod Determined
+pub mod Bands
+pub mod Written
+pub mod Items
+pub mod Backwards
+pub mod Claims

@@ -1,0 +1,6 @@
+pub mod Pool
+pub mod Band
+pub mod Numbers
+pub mod Fraction
+pub mod Regression
+pub mod Claims
