@@ -1,0 +1,12 @@
+pub mod Checks
+pub mod Rows
+pub mod Answers
+pub mod Stands
+pub mod Faultless
+pub mod Accept
+pub mod Stored
+pub mod Books
+pub mod Back
+pub mod RoundTrip
+pub mod Again
+pub mod Claims

@@ -1,0 +1,81 @@
+-- The rows of a table in a book: those read so far and those to come, as 32 bits hold them, and the faults of both.
+use Prim.Native.Nat.{ℕ, zero, suc, _+_, _-_, _*_, _≤_, _<_}
+use mathlib.Core.Path.{_≡_, refl, sym, ap, _∙_}
+use mathlib.Core.Bool.{Bool, true, false}
+use mathlib.Core.List.{List, [], _∷_, _++_, map}
+use native.Mathlib.Nat.{add-zero}
+use native.Mathlib.Omega.{arith}
+use borrow.Author.Tests.{le-leb, lt-leb, leb-true, leb-false}
+use lib.Dec.{leb}
+use lib.ListN.{length}
+use Rattle.table.specs.Table.{Table, Grade, obligorsIn}
+use Rattle.table.specs.Counts.{largest, held}
+use Rattle.book.specs.Checks.{fault}
+use Rattle.book.specs.Rows.{gradeIn, gradesIn, rowChecks, rowsFault, totalChecks, tableFault}
+use Rattle.book.specs.Reading.{heldGrade}
+use Rattle.book.proofs.Checks.{first-none, first-some}
+
+-- Rows read, and rows to come.
+
+pub rows-end : (b : List ℕ) (kind n i at : ℕ) → n ≤ i → gradesIn b kind (n - i) at ≡ []
+unfolding gradesIn
+rows-end b kind n i at h = let e : n - i ≡ 0 = omega arith in rw e
+
+pub rows-at : (b : List ℕ) (kind n i at : ℕ) → i < n → gradesIn b kind (n - i) at ≡ gradeIn b kind at ∷ gradesIn b kind (n - (i + 1)) (at + 12)
+unfolding gradesIn
+rows-at b kind n i at h = let e : n - i ≡ suc (n - (i + 1)) = omega arith in rw e
+
+pub length-rows : (b : List ℕ) (kind n at : ℕ) → length (gradesIn b kind n at) ≡ n
+unfolding gradesIn
+length-rows b kind zero at = refl
+length-rows b kind (suc n) at = ap suc (length-rows b kind n (at + 12))
+
+pub rows-more : (b : List ℕ) (kind i at : ℕ) → gradesIn b kind (suc i) at ≡ gradesIn b kind i at ++ gradeIn b kind (at + 12 * i) ∷ []
+unfolding gradesIn
+rows-more b kind zero at = rw add-zero
+rows-more b kind (suc i) at =
+    let e : at + 12 * suc i ≡ at + 12 + 12 * i = omega arith in
+    rw (e, rows-more b kind i (at + 12))
+
+-- Rows as 32 bits hold them: a count that they cannot hold has the same faults, and takes the total over the limit.
+
+abbrev pub heldTable : Table → Table
+heldTable t = map heldGrade t
+
+pub held-more : (t u : Table) → heldTable (t ++ u) ≡ heldTable t ++ heldTable u
+held-more [] u = refl
+held-more (g ∷ t) u = ap (λ (l : Table). heldGrade g ∷ l) (held-more t u)
+
+pub held-le : (t : Table) → obligorsIn (heldTable t) ≤ obligorsIn t
+unfolding obligorsIn
+held-le [] = omega arith
+held-le (g ∷ t) = omega (arith, held-le t)
+
+pub held-exact : (t : Table) → obligorsIn (heldTable t) ≤ 1_000_000 → heldTable t ≡ t
+unfolding obligorsIn
+held-exact [] h = refl
+held-exact (g ∷ t) h =
+    let e : held (g .obligors) ≡ g .obligors = omega arith in
+    rw (e, held-exact t (omega arith))
+
+leb-same : (a b c d : ℕ) (t : Bool) → leb a b ≡ t → (a ≤ b → c ≤ d) → (b < a → d < c) → leb a b ≡ leb c d
+leb-same a b c d true e f g = e ∙ sym (le-leb c d (f (leb-true a b e)))
+leb-same a b c d false e f g = e ∙ sym (lt-leb c d (g (leb-false a b e)))
+
+pub held-fault : (g : Grade) → g .defaults ≤ largest → fault (rowChecks (heldGrade g)) ≡ fault (rowChecks g)
+unfolding fault rowChecks
+held-fault g h =
+    rw (
+      leb-same (g .defaults) (held (g .obligors)) (g .defaults) (g .obligors) _ refl (λ l. omega arith) (λ l. omega arith),
+      leb-same 1 (held (g .obligors)) 1 (g .obligors) _ refl (λ l. omega arith) (λ l. omega arith),
+    )
+
+-- The fault of a table is that of its rows, and if they have none that of its total.
+
+pub by-rows : (t : Table) (n : ℕ) → (n ≡ 0 → ⊥) → rowsFault t ≡ n → n ≡ tableFault t
+unfolding tableFault
+by-rows t n k e = rw e (sym (first-some n _ k))
+
+pub by-total : (t : Table) (n : ℕ) → rowsFault t ≡ 0 → n ≡ fault (totalChecks t) → n ≡ tableFault t
+unfolding tableFault
+by-total t n e h = h ∙ sym (first-none _ _ e)

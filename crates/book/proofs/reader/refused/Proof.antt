@@ -1,0 +1,10 @@
+-- `refused` meets its contract.
+use borrow.Author.Needs.{needs}
+use Rattle.book.proofs.reader.refused.Statement.{statement}
+use Rattle.book.proofs.reader.refused.Tie as tie
+
+returns : tie.Need-returns
+returns c = rw (c .empty .ensures)
+
+pub refused-spec : {M : Type 1} → statement M
+refused-spec = tie.close (tie.spec (λ c κs. search needs) returns)

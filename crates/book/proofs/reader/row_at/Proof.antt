@@ -1,0 +1,21 @@
+-- `row_at` meets its contract.
+use borrow.Author.Needs.{needs}
+use Rattle.book.specs.Rows.{gradeIn}
+use Rattle.book.proofs.reader.row_at.Statement.{statement}
+use Rattle.book.proofs.reader.row_at.Tie as tie
+
+returns : tie.Need-returns
+unfolding gradeIn
+returns c = cc
+
+pub row-at-spec : {M : Type 1} → statement M
+row-at-spec =
+    tie.close
+    (tie.spec
+    (λ c κs. search needs)
+    (λ c. search needs)
+    (λ c κs. search needs)
+    (λ c. search needs)
+    (λ c κs. search needs)
+    (λ c κs. search needs)
+    returns)

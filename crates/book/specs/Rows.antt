@@ -1,0 +1,60 @@
+-- The rows of a table as they stand in a book, and the checks on them.
+use Prim.Native.Nat.{ℕ, zero, suc, _+_}
+use mathlib.Core.Bool.{cond}
+use mathlib.Core.List.{List, [], _∷_}
+use lib.Dec.{eqb}
+use Rattle.table.specs.Table.{Table, Grade, obligorsIn}
+use Rattle.book.specs.Bytes.{fourAt}
+use Rattle.book.specs.Checks.{Check, at-most, fault, first}
+use Rattle.book.specs.Layout.{startOf, gradesAt, kindAt}
+
+-- n as the kind says: the first column, or first column + defaults
+abbrev pub obligorsBy : ℕ → ℕ → ℕ → ℕ
+obligorsBy kind column defaults = cond (eqb kind 0) column (column + defaults)
+
+-- the grade in the 12 bytes from `at` on
+unfoldable pub gradeIn : List ℕ → ℕ → ℕ → Grade
+gradeIn b kind at =
+    record {
+      obligors = obligorsBy kind (fourAt b at) (fourAt b (at + 4));
+      defaults = fourAt b (at + 4);
+      announced = fourAt b (at + 8);
+    }
+
+-- k grades, from byte `at` on
+unfoldable pub gradesIn : List ℕ → ℕ → ℕ → ℕ → Table
+gradesIn b kind zero at = []
+gradesIn b kind (suc k) at = gradeIn b kind at ∷ gradesIn b kind k (at + 12)
+
+-- the table that starts at byte `at`
+abbrev pub tableAt : List ℕ → ℕ → Table
+tableAt b at = gradesIn b (kindAt b at) (gradesAt b at) (at + 4)
+
+-- the table of rater j
+abbrev pub tableIn : List ℕ → ℕ → Table
+tableIn b j = tableAt b (startOf b j)
+
+-- the tables of k raters, from that of rater j on
+unfoldable pub tablesIn : List ℕ → ℕ → ℕ → List Table
+tablesIn b j zero = []
+tablesIn b j (suc k) = tableIn b j ∷ tablesIn b (suc j) k
+
+-- One row. Of kind 1 the first check never fails: n is first column + defaults.
+unfoldable pub rowChecks : Grade → List Check
+rowChecks g =
+    at-most (g .defaults) (g .obligors) 8
+    ∷ at-most 1 (g .obligors) 9
+    ∷ at-most (g .announced) 1_000_000 10
+    ∷ []
+
+-- row by row
+unfoldable pub rowsFault : Table → ℕ
+rowsFault [] = 0
+rowsFault (g ∷ t) = first (fault (rowChecks g)) (rowsFault t)
+
+-- the checks after the last row
+unfoldable pub totalChecks : Table → List Check
+totalChecks t = at-most (obligorsIn t) 1_000_000 11 ∷ []
+
+unfoldable pub tableFault : Table → ℕ
+tableFault t = first (rowsFault t) (fault (totalChecks t))
