@@ -1,0 +1,11 @@
+pub mod Best
+pub mod Cost
+pub mod Pooled
+pub mod Odds
+pub mod Dominance
+pub mod Cuts
+pub mod Held
+pub mod Sweep
+pub mod Settled
+pub mod Judged
+pub mod Claims

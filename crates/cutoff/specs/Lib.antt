@@ -1,0 +1,5 @@
+pub mod Best
+pub mod Cutoff
+pub mod Verdict
+pub mod Sweep
+pub mod Claims
