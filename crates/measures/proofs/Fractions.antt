@@ -1,0 +1,21 @@
+-- Fractions over a denominator, further: signed differences, and a wider denominator.
+use Prim.Native.Nat.{ℕ, suc, _+_, _-_, _*_}
+use mathlib.Core.Path.{_≡_}
+use native.Mathlib.Omega.{arith}
+use lib.IntN.{subℕ}
+use Rattle.table.proofs.Arithmetic.{times-eq}
+use Rattle.pooling.specs.Fraction.{Fraction}
+use Rattle.pooling.proofs.Scaled.{Over}
+use Rattle.measures.specs.Published.{over}
+use Rattle.measures.proofs.Signed.{by-sign}
+
+-- (a - b) / m
+pub over-signed : (a b m : ℕ) → Over m b (over (subℕ a b) m) a
+over-signed a b m =
+    by-sign (λ z. Over m b (over z m) a) a b
+    (λ l. let e : suc a + (b - suc a) ≡ b = omega arith in omega (arith, times-eq m e))
+    (λ l. let e : b + (a - b) ≡ a = omega arith in omega (arith, times-eq m e))
+
+-- k times the denominator
+pub over-wider : {m s a : ℕ} {x : Fraction} (k : ℕ) → Over m s x a → Over (k * m) (k * s) x (k * a)
+over-wider k h = omega (arith, times-eq k (h .is))

@@ -1,0 +1,10 @@
+pub mod Signed
+pub mod Magnitude
+pub mod Fractions
+pub mod Cutoffs
+pub mod Pairs
+pub mod Areas
+pub mod Curves
+pub mod Pietra
+pub mod Outcomes
+pub mod Claims

@@ -1,0 +1,112 @@
+-- `count_pairs` meets its contract. The invariant: the counts are those of the grades from grade i on.
+use Prim.Native.Nat.{ℕ, _+_, _-_, _≤_}
+use mathlib.Core.Path.{_≡_}
+use mathlib.Core.List.{_∷_}
+use native.Mathlib.Omega.{arith}
+use borrow.Author.Needs.{needs}
+use Rattle.table.specs.declared.Place.{Place}
+use Rattle.table.specs.declared.Survivors.{Survivors}
+use Rattle.table.specs.Table.{survivors, defaultsIn, survivorsIn, obligorsIn}
+use Rattle.table.specs.Place.{gradeAt, tableOf}
+use Rattle.table.proofs.Arithmetic.{times-eq}
+use Rattle.table.proofs.Suffix.{suffix, suffix-all, suffix-end, Turn, turn}
+use Rattle.measures.specs.declared.PairCounts.{PairCounts}
+use Rattle.measures.specs.Pairs.{concordant, discordant}
+use Rattle.measures.specs.Measures.{pairCountsOf}
+use Rattle.measures.proofs.Pairs.{few-pairs}
+use Rattle.measures.proofs.count_pairs.Statement.{statement}
+use Rattle.measures.proofs.count_pairs.Tie as tie
+
+record Passed (p : Place) (i d c x : ℕ) (s : Survivors) : Type 0 where
+  pub inside : i ≤ p .grades
+  pub all-defaults : d ≡ defaultsIn (suffix p i)
+  pub all-survivors : s .0 ≡ survivorsIn (suffix p i)
+  pub all-concordant : c ≡ concordant (suffix p i)
+  pub all-discordant : x ≡ discordant (suffix p i)
+
+abbrev Inv-loop : tie.InvT-loop
+Inv-loop p i₀ d₀ s₀ c₀ x₀ i d s c x = Passed p i d c x s
+
+abbrev μ-loop : tie.MeasureT-loop
+μ-loop p i₀ d₀ s₀ c₀ x₀ i d s c x = i
+
+loop-holds : tie.Need-loop-holds Inv-loop μ-loop
+unfolding defaultsIn survivorsIn concordant discordant
+loop-holds c =
+    let none = suffix-end (c .args .t1) (c .args .t1 .grades) (omega arith) in
+    record { inside = omega arith; all-defaults = rw none; all-survivors = rw none; all-concordant = rw none; all-discordant = rw none }
+
+at : (c : tie.In-loop Inv-loop μ-loop) → Turn (c .before .before .args .t1) (c .before .loop .i)
+at c = turn _ _ (c .before .before .pre) (c .loop-test .taken) (c .before .loop .inv .inside)
+
+-- The pairs that a turn adds.
+
+more-concordant : (c : tie.After-product Inv-loop μ-loop) →
+    let l = c .before .before .before .before .before in
+    l .loop .concordant + c .product .result ≡ concordant (gradeAt (l .before .args .t1) (l .loop .i - 1) ∷ suffix (l .before .args .t1) (l .loop .i))
+unfolding concordant
+more-concordant c =
+    let l = c .before .before .before .before .before in
+    let d = times-eq (c .before .survivors .result .0) (l .loop .inv .all-defaults) in
+    let s = times-eq (defaultsIn (suffix (l .before .args .t1) (l .loop .i))) (c .before .survivors .ensures) in
+    omega (arith, c .product .ensures)
+
+more-discordant : (c : tie.After-product2 Inv-loop μ-loop) →
+    let l = c .before .before .before .before .before .before in
+    l .loop .discordant + c .product2 .result ≡ discordant (gradeAt (l .before .args .t1) (l .loop .i - 1) ∷ suffix (l .before .args .t1) (l .loop .i))
+unfolding discordant
+more-discordant c =
+    let l = c .before .before .before .before .before .before in
+    let s = times-eq (gradeAt (l .before .args .t1) (l .loop .i - 1) .defaults) (l .loop .inv .all-survivors) in
+    omega (arith, c .product2 .ensures)
+
+add-defaults : tie.Need-add-defaults Inv-loop μ-loop
+unfolding defaultsIn obligorsIn
+add-defaults c = let f = at (c .before .before .before .before .before) in omega arith
+
+plus-requires : tie.Need-plus-requires Inv-loop μ-loop
+unfolding survivorsIn obligorsIn
+plus-requires c κs = let f = at (c .before .before .before .before .before) in omega (arith, c .before .before .survivors .ensures)
+
+loop-again : tie.Need-loop-again Inv-loop μ-loop
+unfolding defaultsIn survivorsIn
+loop-again c =
+    let f = at (c .before .before .before .before .before .before) in
+    record {
+      inside = search needs;
+      all-defaults = rw (f .down) (omega arith);
+      all-survivors = rw (f .down) (omega (arith, c .plus .ensures, c .before .before .before .survivors .ensures));
+      all-concordant = rw (f .down) (more-concordant (c .before .before));
+      all-discordant = rw (f .down) (more-discordant (c .before));
+    }
+
+counts-are : (p : Place) (i : ℕ) (r : PairCounts) → i ≡ 0 → Passed p i (r .defaults) (r .concordant) (r .discordant) (r .survivors)
+    → r ≡ pairCountsOf (tableOf p)
+unfolding pairCountsOf
+counts-are p i r e h = rw (← suffix-all p i e, ← h .all-defaults, ← h .all-survivors, ← h .all-concordant, ← h .all-discordant)
+
+returns : tie.Need-returns Inv-loop μ-loop
+returns c = counts-are _ _ _ (omega arith) (c .before .loop .inv)
+
+pub count-pairs-spec : {M : Type 1} → statement M
+count-pairs-spec =
+    tie.close
+    (tie.spec
+    Inv-loop
+    μ-loop
+    loop-holds
+    (λ c. search needs)
+    (λ c. let f = at c in omega arith)
+    (λ c. let f = at c in omega arith)
+    (λ c. let f = at (c .before) in omega arith)
+    (λ c. let f = at (c .before) in omega arith)
+    (λ c κs. let f = at (c .before .before) in omega arith)
+    (λ c κs. search needs)
+    (λ c. omega (arith, more-concordant c, few-pairs (at (c .before .before .before .before) .here)))
+    (λ c κs. search needs)
+    (λ c. omega (arith, more-discordant c, few-pairs (at (c .before .before .before .before .before) .here)))
+    add-defaults
+    plus-requires
+    (λ c. search needs)
+    loop-again
+    returns)

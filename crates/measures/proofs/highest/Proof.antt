@@ -1,0 +1,173 @@
+-- `highest` meets its contract. The invariant: at grade i the cutoffs that turn away no better grade have been tried.
+use Prim.Native.Nat.{ℕ, suc, _+_, _-_, _*_, _≤_, _<_}
+use mathlib.Core.Path.{_≡_, _∙_}
+use mathlib.Core.Bool.{Bool, true, false, cond}
+use native.Mathlib.Nat.{sub-self, zero-mul}
+use native.Mathlib.Omega.{arith}
+use borrow.Author.Needs.{needs}
+use lib.ListN.{length}
+use lib.IntN.{ℤ, pos, subℕ}
+use lib.Signed.{ltZ}
+use mir.Syntax.{w64}
+use mir.Val.{toZ, ofZ}
+use mir.ValLaws.{toZ-ofZ}
+use Rattle.table.specs.declared.Place.{Place}
+use Rattle.table.specs.declared.Survivors.{Survivors}
+use Rattle.table.specs.Table.{Table, Sound, survivors, defaultsIn, survivorsIn, obligorsIn}
+use Rattle.table.specs.Place.{gradeAt, tableOf}
+use Rattle.table.proofs.Arithmetic.{counts-le}
+use Rattle.table.proofs.Suffix.{suffix, suffix-end, length-grades, Turn, turn, small, sound-small}
+use Rattle.cutoff.specs.Best.{best}
+use Rattle.measures.specs.Measures.{height, higher, highestOf}
+use Rattle.measures.proofs.Pairs.{few-counts}
+use Rattle.measures.proofs.Cutoffs.{turned-none, turned-suffix}
+use Rattle.measures.proofs.Signed.{difference-fits}
+use Rattle.measures.proofs.highest.Statement.{statement}
+use Rattle.measures.proofs.highest.Tie as tie
+
+-- h is a height in 64 bits, which `toZ` reads.
+record Tried (p : Place) (i y : ℕ) (x : Survivors) (g h : ℕ) : Type 0 where
+  pub inside : i ≤ p .grades
+  pub caught : y ≡ defaultsIn (suffix p i)
+  pub lost : x .0 ≡ survivorsIn (suffix p i)
+  pub cutoff : g ≡ best higher (height (tableOf p)) (p .grades - i)
+  pub high : toZ w64 h ≡ height (tableOf p) (best higher (height (tableOf p)) (p .grades - i))
+
+-- What a turn knows of the cutoff that it tries: a is y S and b is x D.
+record Next (p : Place) (i y : ℕ) (x : Survivors) (a b : ℕ) : Type 0 where
+  pub inside : i - 1 ≤ p .grades
+  pub number : p .grades - (i - 1) ≡ suc (p .grades - i)
+  pub caught : y ≡ defaultsIn (suffix p (i - 1))
+  pub lost : x .0 ≡ survivorsIn (suffix p (i - 1))
+  pub small-a : a ≤ 1_000_000_000_000
+  pub small-b : b ≤ 1_000_000_000_000
+  pub here : subℕ a b ≡ height (tableOf p) (p .grades - (i - 1))
+
+next : {p : Place} {i y g h d n a b : ℕ} {x x′ s : Survivors} → Sound (tableOf p)
+    → (d ≡ defaultsIn (tableOf p)) × (s .0 ≡ survivorsIn (tableOf p)) → 0 < i → Turn p i → Tried p i y x g h
+    → n ≡ survivors (gradeAt p (i - 1)) → x′ .0 ≡ x .0 + n → a ≡ (y + gradeAt p (i - 1) .defaults) * s .0 → b ≡ x′ .0 * d
+    → Next p i (y + gradeAt p (i - 1) .defaults) x′ a b
+unfolding defaultsIn survivorsIn
+next {p} {i} {y} {g} {h} {d} {n} {a} {b} {x} {x′} {s} sound totals up f kept ofN ofX ofA ofB =
+    let inside : i - 1 ≤ p .grades = omega (arith, kept .inside) in
+    let caught : y + gradeAt p (i - 1) .defaults ≡ defaultsIn (suffix p (i - 1)) = rw (f .down) (omega (arith, kept .caught)) in
+    let lost : x′ .0 ≡ survivorsIn (suffix p (i - 1)) = rw (f .down) (omega (arith, kept .lost)) in
+    let of-a : a ≡ defaultsIn (suffix p (i - 1)) * survivorsIn (tableOf p) = rw (← caught, ← totals .1) ofA in
+    let of-b : b ≡ survivorsIn (suffix p (i - 1)) * defaultsIn (tableOf p) = rw (← lost, ← totals .0) ofB in
+    let part = few-counts (small p (i - 1) sound inside) in
+    let all = few-counts (sound-small sound) in
+    record {
+      inside = inside;
+      number = omega (arith, kept .inside);
+      caught = caught;
+      lost = lost;
+      small-a = rw of-a (counts-le (part .0) (all .1));
+      small-b = rw of-b (counts-le (part .1) (all .0));
+      here = rw (turned-suffix p (i - 1) inside, of-a, of-b);
+    }
+
+-- The cutoff tried is the best so far, or the one kept is.
+best-suc : (f : ℕ → ℤ) (k k′ : ℕ) (kept here : ℤ) (b : Bool) → k′ ≡ suc k → kept ≡ f (best higher f k) → here ≡ f k′ → ltZ kept here ≡ b
+    → best higher f k′ ≡ cond b k′ (best higher f k)
+unfolding best
+best-suc f k k′ kept here b s p q e = rw (s, ← p, ← rw s at q, e)
+
+module _ {p : Place} {i y y₀ a b g h : ℕ} {x x₀ : Survivors} {z : ℤ}
+    (n : Next p i y x a b) (t : Tried p i y₀ x₀ g h) (e : z ≡ subℕ a b) where
+  here : toZ w64 (ofZ w64 z) ≡ height (tableOf p) (p .grades - (i - 1))
+  here = toZ-ofZ w64 z (rw e (difference-fits (n .small-a) (n .small-b))) ∙ e ∙ n .here
+
+  taken : ltZ (toZ w64 h) (toZ w64 (ofZ w64 z)) ≡ true → Tried p (i - 1) y x (p .grades - (i - 1)) (ofZ w64 z)
+  taken test =
+      let it = best-suc (height (tableOf p)) _ _ _ _ true (n .number) (t .high) here test in
+      record { inside = n .inside; caught = n .caught; lost = n .lost; cutoff = rw it; high = rw it here }
+
+  left : ltZ (toZ w64 h) (toZ w64 (ofZ w64 z)) ≡ false → Tried p (i - 1) y x g h
+  left test =
+      let it = best-suc (height (tableOf p)) _ _ _ _ false (n .number) (t .high) here test in
+      record { inside = n .inside; caught = n .caught; lost = n .lost; cutoff = rw it (t .cutoff); high = rw it (t .high) }
+
+none : (t : Table) → pos 0 ≡ height t 0
+unfolding defaultsIn survivorsIn
+none t = rw (turned-none t, zero-mul (survivorsIn t), zero-mul (defaultsIn t))
+
+abbrev Inv-loop : tie.InvT-loop
+Inv-loop d s p i₀ y₀ x₀ g₀ h₀ i y x g h = Tried p i y x g h
+
+abbrev μ-loop : tie.MeasureT-loop
+μ-loop d s p i₀ y₀ x₀ g₀ h₀ i y x g h = i
+
+loop-holds : tie.Need-loop-holds Inv-loop μ-loop
+unfolding defaultsIn survivorsIn best
+loop-holds c =
+    let end = suffix-end (c .args .t1) (c .args .t1 .grades) (omega arith) in
+    record { inside = omega arith; caught = rw end; lost = rw end; cutoff = rw sub-self; high = rw sub-self (none (tableOf (c .args .t1))) }
+
+at : (c : tie.In-loop Inv-loop μ-loop) → Turn (c .before .before .args .t1) (c .before .loop .i)
+at c = turn _ _ (c .before .before .pre .0) (c .loop-test .taken) (c .before .loop .inv .inside)
+
+add-caught : tie.Need-add-caught Inv-loop μ-loop
+unfolding defaultsIn obligorsIn
+add-caught c = let f = at (c .before) in omega arith
+
+plus-requires : tie.Need-plus-requires Inv-loop μ-loop
+unfolding survivorsIn obligorsIn
+plus-requires c κs = let f = at (c .before .before .before) in omega (arith, c .survivors .ensures)
+
+reached : (c : tie.After-product2 Inv-loop μ-loop) →
+    let a = c .before .before .before .before .before .before .before in
+    Next (a .before .args .t1) (a .loop .i) (a .loop .caught + gradeAt (a .before .args .t1) (a .loop .i - 1) .defaults)
+    (c .before .before .plus .result) (c .before .product .result) (c .product2 .result)
+reached c =
+    let a = c .before .before .before .before .before .before .before in
+    next (a .before .pre .0) (a .before .pre .1) (c .before .before .before .before .before .before .loop-test .taken)
+    (at (c .before .before .before .before .before .before)) (a .loop .inv)
+    (c .before .before .before .survivors .ensures) (c .before .before .plus .ensures) (c .before .product .ensures) (c .product2 .ensures)
+
+difference-requires : tie.Need-difference-requires Inv-loop μ-loop
+difference-requires c κs = let n = reached c in (n .small-a, n .small-b)
+
+loop-again : tie.Need-loop-again Inv-loop μ-loop
+loop-again c =
+    taken (reached (c .before .before)) (c .before .before .before .before .before .before .before .before .before .loop .inv)
+    (c .before .difference .ensures) (c .if1 .taken)
+
+loop-again-2 : tie.Need-loop-again-2 Inv-loop μ-loop
+loop-again-2 c =
+    left (reached (c .before .before)) (c .before .before .before .before .before .before .before .before .before .loop .inv)
+    (c .before .difference .ensures) (c .if1 .left)
+
+highest-is : (p : Place) (i y g h : ℕ) (x : Survivors) → i ≡ 0 → Tried p i y x g h → record { cutoff = g; height = toZ w64 h } ≡ highestOf (tableOf p)
+unfolding highestOf
+highest-is p i y g h x e t =
+    let all : length (tableOf p) ≡ p .grades - i = omega (arith, length-grades p 0 (p .grades)) in
+    rw (all, ← t .high, ← t .cutoff)
+
+returns : tie.Need-returns Inv-loop μ-loop
+returns c = highest-is _ _ _ _ _ _ (omega arith) (c .before .loop .inv)
+
+pub highest-spec : {M : Type 1} → statement M
+highest-spec =
+    tie.close
+    (tie.spec
+    Inv-loop
+    μ-loop
+    loop-holds
+    (λ c. search needs)
+    (λ c. let f = at c in omega arith)
+    (λ c. let f = at c in omega arith)
+    add-caught
+    (λ c. let f = at (c .before) in omega arith)
+    (λ c. let f = at (c .before) in omega arith)
+    (λ c κs. let f = at (c .before .before) in omega arith)
+    plus-requires
+    (λ c κs. search needs)
+    (λ c κs. search needs)
+    difference-requires
+    (λ c. omega arith)
+    (λ c. let f = at (c .before .before .before .before .before .before .before .before) in omega arith)
+    (λ c. search needs)
+    loop-again
+    (λ c. search needs)
+    loop-again-2
+    returns)

@@ -1,0 +1,5 @@
+pub mod Pairs
+pub mod Measures
+pub mod Brier
+pub mod Published
+pub mod Claims

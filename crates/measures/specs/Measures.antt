@@ -1,0 +1,55 @@
+-- The measures of a scale, as document 01's "Measures and squared scores" writes them: numerators and denominators, not reduced.
+use Prim.Native.Nat.{ℕ, _+_, _-_, _*_}
+use mathlib.Core.Bool.{Bool}
+use lib.IntN.{ℤ, subℕ}
+use lib.ListN.{length}
+use lib.Signed.{ltZ}
+use Rattle.table.specs.Table.{Table, defaultsIn, survivorsIn, obligorsIn}
+use Rattle.cutoff.specs.Best.{best}
+use Rattle.cutoff.specs.Cutoff.{caught, lost}
+use Rattle.measures.specs.Pairs.{concordant, discordant, tied}
+use Rattle.measures.specs.declared.PairCounts.{PairCounts}
+use Rattle.measures.specs.declared.HighestCutoff.{HighestCutoff}
+use Rattle.measures.specs.declared.Measures.{Measures}
+
+-- D S, the number of pairs
+abbrev pub pairs : Table → ℕ
+pairs t = defaultsIn t * survivorsIn t
+
+-- C, X, D and S
+unfoldable pub pairCountsOf : Table → PairCounts
+pairCountsOf t = record {
+  concordant = concordant t;
+  discordant = discordant t;
+  defaults = defaultsIn t;
+  survivors = record { 0 = survivorsIn t };
+}
+
+-- y S - x D at cutoff g, signed
+abbrev pub height : Table → ℕ → ℤ
+height t g = subℕ (caught t g * survivorsIn t) (lost t g * defaultsIn t)
+
+-- The Pietra rule: x is better than y if it is larger.
+abbrev pub higher : ℤ → ℤ → Bool
+higher x y = ltZ y x
+
+-- the smallest cutoff with the largest y S - x D
+abbrev pub pietraAt : Table → ℕ
+pietraAt t = best higher (height t) (length t)
+
+unfoldable pub highestOf : Table → HighestCutoff
+highestOf t = record { cutoff = pietraAt t; height = height t (pietraAt t) }
+
+unfoldable pub measuresOf : Table → Measures
+measuresOf t = record {
+  defaults = defaultsIn t;
+  survivors = record { 0 = survivorsIn t };
+  gini = record { numerator = subℕ (concordant t) (discordant t); denominator = pairs t };
+  roc = record { numerator = 2 * concordant t + tied t; denominator = 2 * pairs t };
+  cap = record {
+    numerator = defaultsIn t * obligorsIn t + concordant t - discordant t;
+    denominator = 2 * (defaultsIn t * obligorsIn t);
+  };
+  pietra = record { numerator = height t (pietraAt t); denominator = pairs t };
+  cutoff = pietraAt t;
+}

@@ -1,0 +1,10 @@
+pub mod Fractions
+pub mod Nearest
+pub mod Rounding
+pub mod Operations
+pub mod Quarter
+pub mod Exact
+pub mod Adding
+pub mod Brier
+pub mod Claims
+pub mod Plain

@@ -1,0 +1,50 @@
+-- `quotient` meets its contract: an f64 holds both operands, so that only the quotient is rounded, and it is below 2^18.
+use Prim.Native.Nat.{ℕ, _+_, _*_, _^_, _≤_}
+use mathlib.Core.Path.{_≡_, refl}
+use native.Mathlib.Omega.{arith}
+use borrow.Author.Needs.{needs}
+use lib.Dec.{T, le→leb}
+use lib.IntN.{pos}
+use lib.Ieee.{binary64, inFloat}
+use Rattle.table.proofs.Arithmetic.{counts-le}
+use Rattle.spread.proofs.Quarter.{product-le}
+use Rattle.spread.proofs.Operations.{whole-value, div-near}
+use Rattle.spread.proofs.quotient.Statement.{statement}
+use Rattle.spread.proofs.quotient.Tie as tie
+
+in-float : (n : ℕ) → n ≤ 2 ^ 53 → T (inFloat binary64 (pos n))
+unfolding inFloat
+in-float n h = le→leb n (2 ^ 53) h
+
+product-small : (d s : ℕ) → d + s ≤ 1_000_000 → d * s ≤ 1_000_000_000_000
+product-small d s h = counts-le {a = d} {b = s} (omega arith) (omega arith)
+
+mul-result : tie.Need-mul-result
+mul-result c = omega (arith, product-small (c .before .before .args .defaults) (c .before .before .args .survivors .0) (omega arith))
+
+int-to-float-result : tie.Need-int-to-float-result
+int-to-float-result c =
+    let a = c .before .before .before in
+    in-float _ (omega (arith, product-small (a .args .defaults) (a .args .survivors .0) (omega arith)))
+
+returns : tie.Need-returns
+returns c =
+    let w = c .before .before .before in
+    let d = w .before .args .defaults in
+    let s = w .before .args .survivors .0 in
+    let all : w .with-defaults .result .0 ≡ d + s = omega (arith, w .with-defaults .ensures) in
+    let product = product-le d s 1_000_000 (omega arith) in
+    let above = whole-value binary64 (d * s) (omega arith) in
+    let below = whole-value binary64 (d + s) (omega arith) in
+    rw all (div-near binary64 18 36 refl _ _ (d * s) (d + s) above below (omega arith) (omega arith))
+
+pub quotient-spec : {M : Type 1} → statement M
+quotient-spec =
+    tie.close
+    (tie.spec
+    (λ c κs. search needs)
+    (λ c. search needs)
+    mul-result
+    int-to-float-result
+    (λ c. search needs)
+    returns)

@@ -1,0 +1,4 @@
+pub mod Near
+pub mod Spread
+pub mod Brier
+pub mod Claims
