@@ -1,0 +1,30 @@
+-- The desk (document 01's term): two places, numbered 1 and 2, each empty or holding one table.
+use Prim.Native.Nat.{ℕ}
+use mathlib.Core.Bool.{cond}
+use lib.Dec.{eqb}
+use Rattle.table.specs.Table.{Table, Sound}
+use Rattle.table.specs.Place.{fresh, placeOf}
+use Rattle.table.specs.declared.Place.{Place}
+use Rattle.desk.specs.declared.Desk.{Desk}
+
+-- "A fresh desk has both places empty."
+abbrev pub freshDesk : Desk
+freshDesk = record { first = fresh; second = fresh }
+
+-- place i of a desk, for i 1 or 2
+abbrev pub placeAt : Desk → ℕ → Place
+placeAt d i = cond (eqb i 1) (d .first) (d .second)
+
+-- the desk with another place i
+abbrev pub withPlace : Desk → ℕ → Place → Desk
+withPlace d i p = cond (eqb i 1) (record { first = p; second = d .second }) (record { first = d .first; second = p })
+
+-- What calls from the empty desk leave in a place: nothing, or a table.
+pub data SoundPlace : Place → Type 0 where
+  empty : SoundPlace fresh
+  holds : (t : Table) → Sound t → SoundPlace (placeOf t)
+
+-- The one thing that a contract requires of a desk; `EveryDeskIsSound` shows that calls imply it.
+pub record SoundDesk (d : Desk) : Type 0 where
+  pub first : SoundPlace (d .first)
+  pub second : SoundPlace (d .second)

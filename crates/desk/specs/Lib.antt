@@ -1,0 +1,6 @@
+pub mod Desk
+pub mod Answers
+pub mod Calls
+pub mod History
+pub mod Demands
+pub mod Worked
