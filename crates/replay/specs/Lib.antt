@@ -1,0 +1,5 @@
+pub mod Input
+pub mod Script
+pub mod Answers
+pub mod Calls
+pub mod State

@@ -1,0 +1,26 @@
+-- `report` is safe: the desk that its load leaves is sound.
+use borrow.Author.Needs.{needs}
+use Rattle.desk.specs.Desk.{freshDesk, SoundDesk}
+use Rattle.desk.proofs.Places.{few-grades}
+use Rattle.desk.proofs.Soundness.{fresh-sound, load-sound}
+use Rattle.report.proofs.report.Statement.{statement}
+use Rattle.report.proofs.report.Tie as tie
+
+sound : (c : tie.After-load) → SoundDesk (c .load .result .desk)
+sound c = rw (c .load .ensures .0, c .before .empty .ensures) (load-sound freshDesk 1 _ 1 fresh-sound)
+
+pub report-spec : {M : Type 1} → statement M
+report-spec =
+    tie.close
+    (tie.spec
+    (λ c κs. search needs)
+    (λ c κs. search needs)
+    (λ c. search needs)
+    (λ c. search needs)
+    (λ c κs. sound (c .before .before .before .before))
+    (λ c κs. few-grades (sound (c .before .before .before .before .before .before) .first))
+    (λ c κs. sound (c .before .before .before .before .before .before .before))
+    (λ c. search needs)
+    (λ c κs. search needs)
+    (λ c. search needs)
+    (λ c. search needs))

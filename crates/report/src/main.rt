@@ -1,0 +1,116 @@
+// The printing program: the pooled grades and the Gini of rater 1 of the book on standard input.
+ghost use Prim.Native.Nat.{_≤_};
+ghost use mathlib.Core.Path.{_≡_};
+ghost use lib.IntN.{natAbs};
+ghost use Rattle.desk.specs.Desk.{SoundDesk};
+use book::Ack;
+use desk::Desk;
+use desk::MeasuresAnswer;
+use libc::STDIN_FILENO;
+use libc::STDOUT_FILENO;
+use table::GRADES;
+
+// The longest input, in bytes.
+const LIMIT: usize = 8_192;
+
+// What longer input is refused with.
+const TOO_LONG: u32 = 2;
+
+// What pool writes a grade: block defaults, block obligors, band.
+const NUMBERS: usize = 3;
+
+fn text(t: &[u8]) {
+    io::write_all(STDOUT_FILENO, t);
+}
+
+fn number(n: u64) {
+    io::print_decimal(STDOUT_FILENO, n);
+}
+
+// How large a number is, whatever its sign. The complement of a negative n is -n - 1, which fits where -n may not.
+fn magnitude(n: i64) -> u64
+    ensures { λ r. ⌜ r ≡ natAbs n ⌝ }
+{
+    if n < 0 { (!n) as u64 + 1 } else { n as u64 }
+}
+
+// With a leading hyphen where it is negative.
+fn signed(n: i64) {
+    if n < 0 {
+        text(b"-");
+    }
+    number(magnitude(n));
+}
+
+fn refused(n: u32) {
+    text(b"refused ");
+    number(n as u64);
+    text(b"\n");
+}
+
+fn grade(g: usize, defaults: u32, obligors: u32, band: u32) {
+    number(g as u64);
+    text(b" ");
+    number(defaults as u64);
+    text(b" ");
+    number(obligors as u64);
+    text(b" ");
+    number(band as u64);
+    text(b"\n");
+}
+
+// A line for each grade, best first.
+fn grades(pooled: [u32; NUMBERS * GRADES], count: usize)
+    requires { ⌜ count ≤ 40 ⌝ }
+{
+    let mut i: usize = 0;
+    while i < count {
+        grade(
+            i + 1,
+            pooled[NUMBERS * i],
+            pooled[NUMBERS * i + 1],
+            pooled[NUMBERS * i + 2],
+        );
+        i += 1;
+    }
+}
+
+fn gini(desk: Desk)
+    requires { ⌜ SoundDesk desk ⌝ }
+{
+    text(b"gini ");
+    match desk.measures(1) {
+        MeasuresAnswer::Measures(m) => {
+            signed(m.gini.numerator);
+            text(b" ");
+            number(m.gini.denominator);
+            text(b"\n");
+        }
+        MeasuresAnswer::Refused(n) => refused(n),
+    }
+}
+
+fn report(book: &[u8]) {
+    let stored = Desk::empty().load(1, book, 1);
+    let desk = stored.desk;
+    let ack = stored.ack;
+    match ack {
+        Ack::Done => {
+            let mut pooled = [0u32; NUMBERS * GRADES];
+            desk.pool(1, &mut pooled);
+            grades(pooled, desk.first.grades);
+            gini(desk);
+        }
+        Ack::Refused(n) => refused(n),
+    }
+}
+
+fn main() {
+    let mut input = [0u8; LIMIT + 1];
+    let n = io::read_full(STDIN_FILENO, &mut input);
+    if LIMIT < n {
+        refused(TOO_LONG);
+    } else {
+        report(&input[..n]);
+    }
+}
