@@ -1,0 +1,106 @@
+//! The generator of scripts: scenes of a few calls each, one after the other on the same desk.
+//! The same seed and number of calls, the same script.
+
+use crate::desk::Desk;
+use crate::draft::Draft;
+use crate::random::Random;
+use crate::scenes::SCENES;
+use crate::script::Call;
+use crate::table::Table;
+use crate::tail::broken_tail;
+
+/// A script, with the name of the scene that each call belongs to.
+pub struct Script {
+    pub calls: Vec<Call>,
+    pub scenes: Vec<&'static str>,
+    /// Bytes behind the last call that no program can carry out; none if the script just ends.
+    pub tail: Vec<u8>,
+}
+
+impl Script {
+    pub fn generate(seed: u64, calls: usize) -> Script {
+        let mut generator = Generator::of_seed(seed);
+        while generator.calls.len() < calls {
+            generator.scene();
+        }
+        generator.calls.truncate(calls);
+        generator.scenes.truncate(calls);
+        let tail = match generator.random.chance(60) {
+            true => broken_tail(&mut generator.random),
+            false => vec![],
+        };
+        Script {
+            calls: generator.calls,
+            scenes: generator.scenes,
+            tail,
+        }
+    }
+
+    pub fn encode(&self) -> Vec<u8> {
+        let mut bytes: Vec<u8> = self.calls.iter().flat_map(Call::encode).collect();
+        bytes.extend(&self.tail);
+        bytes
+    }
+}
+
+/// A script in the making.
+pub struct Generator {
+    pub random: Random,
+    /// The desk as the calls so far leave it.
+    pub desk: Desk,
+    calls: Vec<Call>,
+    scenes: Vec<&'static str>,
+    name: &'static str,
+}
+
+impl Generator {
+    fn of_seed(seed: u64) -> Generator {
+        Generator {
+            random: Random::of_seed(seed),
+            desk: Desk::fresh(),
+            calls: vec![],
+            scenes: vec![],
+            name: "",
+        }
+    }
+
+    fn scene(&mut self) {
+        let (name, scene) = self.random.weighted(&SCENES);
+        self.name = name;
+        scene(self);
+    }
+
+    pub fn emit(&mut self, call: Call) {
+        self.desk.call(&call);
+        self.calls.push(call);
+        self.scenes.push(self.name);
+    }
+
+    /// Clears a place if it is loaded.
+    pub fn empty(&mut self, place: u32) {
+        if self.desk.is_loaded(place) {
+            self.emit(Call::Clear { place });
+        }
+    }
+
+    pub fn load(&mut self, place: u32, draft: Draft) {
+        let (rater, book) = (draft.rater, draft.bytes);
+        self.emit(Call::Load { place, rater, book });
+    }
+
+    pub fn load_pair(&mut self, (first, second): (Table, Table)) {
+        self.empty(1);
+        self.empty(2);
+        if self.random.chance(50) {
+            let mut draft = Draft::of_tables(&mut self.random, &[first, second], 1);
+            self.load(1, draft.clone());
+            draft.rater = 2;
+            self.load(2, draft);
+        } else {
+            let draft = Draft::around(&mut self.random, &first);
+            self.load(1, draft);
+            let draft = Draft::around(&mut self.random, &second);
+            self.load(2, draft);
+        }
+    }
+}

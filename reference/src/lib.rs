@@ -1,0 +1,33 @@
+//! The rating scale desk in plain Rust, written from document 01 and REPLAY.md alone: a second
+//! opinion on the proved library. Everything is done by definition, not cleverly, so that it can
+//! be read next to the document.
+//!
+//! * the library: `table`, `book`, `pooling`, `cutoff`, `measures`, `spread`, `desk`, `print`;
+//! * the scripts of REPLAY.md: `script` (calls), `answer` (lines);
+//! * the generator: `random`, `population` (tables), `partners` (pairs of tables), `draft` (books),
+//!   `damage` (of books), `operands`, `scenes`, `tail`, `generate`;
+//! * the comparison: `compare`, `tally`;
+//! * `natural`: whole numbers of any size, for the bound on the residual.
+
+pub mod answer;
+pub mod book;
+pub mod compare;
+pub mod cutoff;
+pub mod damage;
+pub mod desk;
+pub mod draft;
+pub mod generate;
+pub mod measures;
+pub mod natural;
+pub mod operands;
+pub mod partners;
+pub mod pooling;
+pub mod population;
+pub mod print;
+pub mod random;
+pub mod scenes;
+pub mod script;
+pub mod spread;
+pub mod table;
+pub mod tail;
+pub mod tally;

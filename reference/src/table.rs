@@ -1,0 +1,65 @@
+//! A grade table: how many obligors each grade of a rating scale holds, how many of them
+//! defaulted, and which default rate was announced for the grade.
+
+/// The most grades a table may have.
+pub const MAX_GRADES: usize = 40;
+/// The most obligors a table may have (N).
+pub const MAX_OBLIGORS: u64 = 1_000_000;
+/// The whole in ppm; also the highest announced rate.
+pub const MILLION: u64 = 1_000_000;
+
+/// Document 01's number for a refusal.
+pub type Refusal = u32;
+
+/// One row of a table.
+#[derive(Clone, Copy, Debug, PartialEq, Eq)]
+pub struct Grade {
+    /// n
+    pub obligors: u64,
+    /// d
+    pub defaults: u64,
+    /// The default rate that the rater stated beforehand, in ppm. Document 01: "announced".
+    pub announced: u64,
+}
+
+impl Grade {
+    /// s = n - d
+    pub fn survivors(&self) -> u64 {
+        self.obligors - self.defaults
+    }
+}
+
+/// The grades of one rater, the best first.
+#[derive(Clone, Debug, PartialEq, Eq)]
+pub struct Table {
+    pub grades: Vec<Grade>,
+}
+
+impl Table {
+    /// A table of rows (n, d), all announced rates 0.
+    pub fn of_rows(rows: &[(u64, u64)]) -> Table {
+        let grade = |&(obligors, defaults): &(u64, u64)| Grade {
+            obligors,
+            defaults,
+            announced: 0,
+        };
+        Table {
+            grades: rows.iter().map(grade).collect(),
+        }
+    }
+
+    /// N
+    pub fn obligors(&self) -> u64 {
+        self.grades.iter().map(|grade| grade.obligors).sum()
+    }
+
+    /// D
+    pub fn defaults(&self) -> u64 {
+        self.grades.iter().map(|grade| grade.defaults).sum()
+    }
+
+    /// S
+    pub fn survivors(&self) -> u64 {
+        self.grades.iter().map(Grade::survivors).sum()
+    }
+}

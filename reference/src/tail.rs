@@ -1,0 +1,43 @@
+//! Broken ends of scripts: what no program can carry out, and answers with the line `end`.
+
+use crate::random::Random;
+use crate::script::{Call, MAX_BOOK_LENGTH};
+
+/// Bytes that end the program after the line `end`.
+pub fn broken_tail(random: &mut Random) -> Vec<u8> {
+    let numbers =
+        |numbers: &[u32]| -> Vec<u8> { numbers.iter().flat_map(|n| n.to_le_bytes()).collect() };
+    match random.between(0, 3) {
+        // An unknown operation; what follows is not carried out.
+        0 => numbers(&[random.pick(&[0, 10, 256 + 5, u32::MAX]), 5, 5, 5]),
+        // A buffer above its limit; what follows is not carried out.
+        1 => numbers(&[3, random.pick(&[0, 1, 2]), random.pick(&[513, u32::MAX]), 5]),
+        2 => numbers(&[9, random.pick(&[8_193, u32::MAX]), 5]),
+        // An operand cut short.
+        _ => cut_call(random),
+    }
+}
+
+fn cut_call(random: &mut Random) -> Vec<u8> {
+    let place = 1;
+    let length = random.pick(&[1, 46, MAX_BOOK_LENGTH]) as usize;
+    let book = vec![1; length];
+    let calls = [
+        Call::Load {
+            place,
+            rater: 1,
+            book,
+        },
+        Call::Clear { place },
+        Call::Pool { place, length: 3 },
+        Call::Cheapest { place, u: 1, v: 1 },
+        Call::Measures { place },
+        Call::Brier { place },
+        Call::Spread { place },
+        Call::Write { length: 46 },
+    ];
+    let mut bytes = calls[random.index(calls.len())].encode();
+    let shorter = random.between(4, bytes.len() as u64 - 1) as usize;
+    bytes.truncate(shorter);
+    bytes
+}

@@ -1,0 +1,145 @@
+//! How often one run exercises which operations, verdicts, refusal numbers, buffers and scenes.
+
+use crate::answer::{verdict_name, Answer};
+use crate::compare::plan;
+use crate::desk::Desk;
+use crate::generate::Script;
+use crate::script::Call;
+use crate::table::Refusal;
+use std::collections::BTreeMap;
+
+#[derive(Default)]
+pub struct Tally {
+    scripts: usize,
+    broken_scripts: usize,
+    /// Accepted and refused calls of each operation.
+    operations: BTreeMap<&'static str, (usize, usize)>,
+    verdicts: BTreeMap<&'static str, usize>,
+    /// For each refusal number, the calls of each operation.
+    refusals: BTreeMap<Refusal, BTreeMap<&'static str, usize>>,
+    /// Lent buffers against what the call needs.
+    buffers: BTreeMap<(&'static str, &'static str), usize>,
+    scenes: BTreeMap<&'static str, usize>,
+}
+
+impl Tally {
+    /// The tally of all scripts of one run.
+    pub fn of_run(seed: u64, calls: usize) -> Tally {
+        let mut tally = Tally::default();
+        for (seed, calls) in plan(seed, calls) {
+            tally.add_script(&Script::generate(seed, calls));
+        }
+        tally
+    }
+
+    fn add_script(&mut self, script: &Script) {
+        self.scripts += 1;
+        self.broken_scripts += usize::from(!script.tail.is_empty());
+        let mut desk = Desk::fresh();
+        for (call, scene) in script.calls.iter().zip(&script.scenes) {
+            *self.scenes.entry(scene).or_default() += 1;
+            self.add_buffer(&desk, call);
+            let answer = desk.call(call);
+            self.add_answer(call.name(), &answer);
+        }
+    }
+
+    fn add_answer(&mut self, operation: &'static str, answer: &Answer) {
+        let counts = self.operations.entry(operation).or_default();
+        match answer.refusal() {
+            None => counts.0 += 1,
+            Some(number) => {
+                counts.1 += 1;
+                let by_operation = self.refusals.entry(number).or_default();
+                *by_operation.entry(operation).or_default() += 1;
+            }
+        }
+        if let Answer::Compare(Ok(verdict)) = answer {
+            *self.verdicts.entry(verdict_name(verdict)).or_default() += 1;
+        }
+    }
+
+    fn add_buffer(&mut self, desk: &Desk, call: &Call) {
+        let (needed, lent) = match *call {
+            Call::Pool { place, length } => {
+                let table = desk.table(place).ok();
+                (table.map(|table| 3 * table.grades.len()), length)
+            }
+            Call::Write { length } => (desk.book_length(), length),
+            _ => return,
+        };
+        let Some(needed) = needed else { return };
+        let lent = lent as usize;
+        let fit = match needed {
+            _ if lent == needed => "exact",
+            _ if lent > needed => "longer",
+            _ if lent + 1 == needed => "one too short",
+            _ => "shorter still",
+        };
+        *self.buffers.entry((call.name(), fit)).or_default() += 1;
+    }
+
+    /// The tables, as Markdown.
+    pub fn markdown(&self) -> String {
+        [
+            self.operation_table(),
+            self.verdict_table(),
+            self.refusal_table(),
+            self.buffer_table(),
+            self.scene_table(),
+        ]
+        .join("\n")
+    }
+
+    fn operation_table(&self) -> String {
+        let mut text =
+            "| operation | calls | accepted | refused |\n| --- | --- | --- | --- |\n".to_string();
+        let mut calls = 0;
+        for (operation, (accepted, refused)) in &self.operations {
+            let sum = accepted + refused;
+            text += &format!("| {operation} | {sum} | {accepted} | {refused} |\n");
+            calls += sum;
+        }
+        let (scripts, broken) = (self.scripts, self.broken_scripts);
+        text + &format!(
+            "\n{calls} calls in {scripts} scripts, {broken} of which break off (`end`).\n"
+        )
+    }
+
+    fn verdict_table(&self) -> String {
+        let mut text = "| verdict | times |\n| --- | --- |\n".to_string();
+        for (verdict, times) in &self.verdicts {
+            text += &format!("| {verdict} | {times} |\n");
+        }
+        text
+    }
+
+    fn refusal_table(&self) -> String {
+        let mut text = "| refusal | times | by operation |\n| --- | --- | --- |\n".to_string();
+        for (number, by_operation) in &self.refusals {
+            let times: usize = by_operation.values().sum();
+            let parts: Vec<String> = by_operation
+                .iter()
+                .map(|(operation, times)| format!("{operation} {times}"))
+                .collect();
+            text += &format!("| {number} | {times} | {} |\n", parts.join(", "));
+        }
+        text
+    }
+
+    fn buffer_table(&self) -> String {
+        let mut text = "| lent buffer | fit | times |\n| --- | --- | --- |\n".to_string();
+        for ((operation, fit), times) in &self.buffers {
+            text += &format!("| {operation} | {fit} | {times} |\n");
+        }
+        text
+    }
+
+    fn scene_table(&self) -> String {
+        let mut text = "| scene | calls |\n| --- | --- |\n".to_string();
+        for (scene, calls) in &self.scenes {
+            text += &format!("| {scene} | {calls} |\n");
+        }
+        text
+    }
+}

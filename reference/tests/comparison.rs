@@ -1,0 +1,169 @@
+//! The comparison itself: it accepts lawful answers and notices every other.
+
+use reference::compare::{answers, compare, judge};
+use reference::generate::Script;
+use reference::script::decode;
+use reference::tally::Tally;
+
+fn own_answers(script: &Script) -> String {
+    let (calls, breaks_off) = decode(&script.encode());
+    answers(&calls, breaks_off)
+}
+
+#[test]
+fn scripts_decode_to_their_calls() {
+    for seed in 0..60 {
+        let script = Script::generate(seed, 60);
+        let (calls, breaks_off) = decode(&script.encode());
+        assert!(calls == script.calls, "seed {seed}");
+        assert_eq!(breaks_off, !script.tail.is_empty(), "seed {seed}");
+    }
+}
+
+#[test]
+fn own_answers_are_accepted() {
+    for seed in 0..30 {
+        let script = Script::generate(seed, 100);
+        assert_eq!(judge(&script, &own_answers(&script)), Ok(()));
+    }
+}
+
+/// The line with one word changed, in as many ways as it has words.
+fn changed_lines(line: &str) -> Vec<String> {
+    let words: Vec<&str> = line.split(' ').collect();
+    let mut changed = Vec::new();
+    for index in 0..words.len() {
+        let mut words: Vec<String> = words.iter().map(|word| word.to_string()).collect();
+        words[index] = match words[index].parse::<u64>() {
+            Ok(number) => (number ^ 1 << 30).to_string(),
+            Err(_) => format!("{}0", words[index]),
+        };
+        changed.push(words.join(" "));
+    }
+    changed.push(format!("{line} "));
+    changed.push(format!("{line}\n"));
+    changed.push(String::new());
+    changed
+}
+
+/// The 2^30 bit of a float's mantissa moves it by less than the bound unless it is large.
+fn is_float_line(line: &str) -> bool {
+    line.starts_with("spread ok")
+}
+
+#[test]
+fn every_changed_word_is_noticed() {
+    for seed in 0..4 {
+        let script = Script::generate(seed, 60);
+        let text = own_answers(&script);
+        let lines: Vec<&str> = text.lines().collect();
+        for (index, line) in lines.iter().enumerate() {
+            if is_float_line(line) || line.len() > 2_000 {
+                continue;
+            }
+            for changed in changed_lines(line) {
+                let mut lines = lines.clone();
+                lines[index] = &changed;
+                let output = lines.join("\n") + "\n";
+                let difference = judge(&script, &output).expect_err(&changed);
+                assert!([index + 1, index + 2].contains(&difference.index));
+            }
+        }
+    }
+}
+
+#[test]
+fn missing_and_additional_output_is_noticed() {
+    let script = Script::generate(3, 40);
+    let text = own_answers(&script);
+    assert!(judge(&script, text.trim_end_matches('\n')).is_err());
+    assert!(judge(&script, &text[..text.len() / 2]).is_err());
+    assert!(judge(&script, &(text.clone() + "end\n")).is_err());
+    assert!(judge(&script, "").is_err());
+}
+
+/// A script that compares the two raters of table h: crossing.
+fn crossing_script() -> Script {
+    use reference::{book, script::Call, table::Table};
+    let first = Table::of_rows(&[(5, 2), (1, 1)]);
+    let second = Table::of_rows(&[(2, 0), (4, 3)]);
+    let load = |place, rater| Call::Load {
+        place,
+        rater,
+        book: book::write(&[&first, &second]),
+    };
+    let calls = vec![
+        load(1, 1),
+        load(2, 2),
+        Call::Compare,
+        Call::Spread { place: 1 },
+    ];
+    Script {
+        scenes: vec![""; calls.len()],
+        calls,
+        tail: vec![],
+    }
+}
+
+fn crossing_accepts(compare: &str, total: f64, residual: f64) -> bool {
+    let (total, residual) = (total.to_bits(), residual.to_bits());
+    let output = format!("load ok\nload ok\n{compare}\nspread ok {total} {residual}\n");
+    judge(&crossing_script(), &output).is_ok()
+}
+
+#[test]
+fn price_pairs_are_judged_by_their_meaning() {
+    let accepts = |pairs: &str| crossing_accepts(&format!("compare ok {pairs}"), 1.5, 1.2);
+    assert!(accepts("crossing 1 1 1 3"));
+    assert!(accepts("crossing 333333 333333 100 300"));
+    assert!(!accepts("crossing 1 3 1 1"));
+    assert!(!accepts("crossing 1000001 1000001 1 3"));
+    assert!(!accepts("crossing 1 1 0 0"));
+    assert!(!accepts("crossing 1 1"));
+    assert!(!accepts("crossing 1 1 1 3 1 3"));
+    assert!(!accepts("crossing 01 1 1 3"));
+    assert!(!accepts("first 1 3"));
+    assert!(!accepts("second 1 1"));
+    assert!(!accepts("equal"));
+}
+
+#[test]
+fn floats_are_judged_by_their_meaning() {
+    let accepts =
+        |total, residual| crossing_accepts("compare ok crossing 1 1 1 3", total, residual);
+    let step = |power: i32| 0.5f64.powi(power);
+    // D 3, S 3, N 6; blocks 2/5 and 1/1.
+    assert!(accepts(1.5, 1.2));
+    assert!(accepts(1.5 + step(36), 1.2 + step(30)));
+    assert!(!accepts(1.5 + step(36) + step(52), 1.2));
+    assert!(!accepts(1.5, 1.2 - step(29) - step(40)));
+    assert!(!accepts(f64::NAN, 1.2));
+    assert!(!accepts(1.5, f64::INFINITY));
+    assert!(!accepts(-1.5, 1.2));
+}
+
+#[test]
+fn the_program_agrees_with_itself() {
+    let program = env!("CARGO_BIN_EXE_reference");
+    assert!(compare(program, 7, 2_000).is_ok());
+}
+
+#[test]
+fn another_program_fails() {
+    let failure = compare("true", 7, 50).map_err(|failure| failure.reason);
+    assert!(failure.is_err_and(|reason| reason.contains("call 1:")));
+    assert!(compare("no such program", 7, 50).is_err());
+}
+
+#[test]
+fn a_run_exercises_everything() {
+    let table = Tally::of_run(1, 20_000).markdown();
+    let expected = ["crossing", "equal", "first", "second"].map(String::from);
+    let refusals = (1..=13).chain(21..=25).map(|number| number.to_string());
+    for row in expected.into_iter().chain(refusals) {
+        let start = format!("| {row} | ");
+        let line = table.lines().find(|line| line.starts_with(&start));
+        let times = line.and_then(|line| line[start.len()..].split(' ').next()?.parse().ok());
+        assert!(times.unwrap_or(0) >= 50, "{row}");
+    }
+}

@@ -1,0 +1,162 @@
+//! The definitions once more, by still plainer means, on small random tables.
+
+use reference::cutoff::{cheapest_cost, cutoffs, verdict, Price, Verdict};
+use reference::measures::pairs;
+use reference::natural::Natural;
+use reference::pooling::{blocks, pooled_scale, Rate};
+use reference::random::Random;
+use reference::spread::{lawful, spread};
+use reference::table::Table;
+use std::cmp::Ordering;
+
+/// A table of few obligors; D and S are at most 8 each and at least 1.
+fn small_table(random: &mut Random, defaults: u64, survivors: u64) -> Table {
+    let count = random.between(1, 5) as usize;
+    let mut rows = vec![(0, 0); count];
+    for person in 0..defaults + survivors {
+        let row = &mut rows[random.index(count)];
+        row.0 += 1;
+        row.1 += u64::from(person < defaults);
+    }
+    rows.retain(|row| row.0 > 0);
+    Table::of_rows(&rows)
+}
+
+#[test]
+fn verdicts_agree_with_trying_all_small_prices() {
+    let mut seen = [0; 4];
+    for seed in 0..4_000 {
+        let mut random = Random::of_seed(seed);
+        let (defaults, survivors) = (random.between(1, 8), random.between(1, 8));
+        let first = small_table(&mut random, defaults, survivors);
+        let second = small_table(&mut random, defaults, survivors);
+        let (mut first_dearer, mut second_dearer) = (false, false);
+        for u in 0..=20 {
+            for v in 0..=20 {
+                let price = Price {
+                    missed_default: u,
+                    lost_survivor: v,
+                };
+                let costs = cheapest_cost(&first, &price).cmp(&cheapest_cost(&second, &price));
+                first_dearer |= costs == Ordering::Greater;
+                second_dearer |= costs == Ordering::Less;
+            }
+        }
+        let found = match verdict(&first, &second) {
+            Verdict::Equal => (false, false),
+            Verdict::First(_) => (false, true),
+            Verdict::Second(_) => (true, false),
+            Verdict::Crossing(..) => (true, true),
+        };
+        assert_eq!(found, (first_dearer, second_dearer), "{first:?} {second:?}");
+        seen[usize::from(found.0) + 2 * usize::from(found.1)] += 1;
+    }
+    assert!(seen.iter().all(|&times| times > 50), "{seen:?}");
+}
+
+/// Adjacent violators, joined until none is left.
+fn joined_violators(table: &Table) -> Vec<Rate> {
+    let mut rates: Vec<Rate> = Vec::new();
+    for grade in &table.grades {
+        let mut last = Rate {
+            defaults: grade.defaults,
+            obligors: grade.obligors,
+        };
+        while let Some(before) = rates.pop() {
+            if before.compare(&last) == Ordering::Less {
+                rates.push(before);
+                break;
+            }
+            last.defaults += before.defaults;
+            last.obligors += before.obligors;
+        }
+        rates.push(last);
+    }
+    rates
+}
+
+#[test]
+fn pooling_agrees_with_joining_violators() {
+    for seed in 0..3_000 {
+        let table = reference::population::any_table(&mut Random::of_seed(seed));
+        let rates: Vec<Rate> = blocks(&table).iter().map(|block| block.rate).collect();
+        assert_eq!(rates, joined_violators(&table));
+    }
+}
+
+#[test]
+fn a_table_and_its_pooled_scale_are_equal() {
+    for seed in 0..1_000 {
+        let table = reference::population::any_table(&mut Random::of_seed(seed));
+        assert_eq!(verdict(&table, &pooled_scale(&table)), Verdict::Equal);
+    }
+}
+
+#[test]
+fn pairs_agree_with_counting_obligors_one_by_one() {
+    for seed in 0..500 {
+        let mut random = Random::of_seed(seed);
+        let table = small_table(&mut random, 7, 8);
+        let mut people = Vec::new();
+        for (index, grade) in table.grades.iter().enumerate() {
+            for person in 0..grade.obligors {
+                people.push((index, person < grade.defaults));
+            }
+        }
+        let mut counted = (0, 0, 0);
+        for &(bad_grade, _) in people.iter().filter(|person| person.1) {
+            for &(good_grade, _) in people.iter().filter(|person| !person.1) {
+                counted.0 += u64::from(bad_grade > good_grade);
+                counted.1 += u64::from(bad_grade < good_grade);
+                counted.2 += u64::from(bad_grade == good_grade);
+            }
+        }
+        let pairs = pairs(&table);
+        assert_eq!(counted, (pairs.concordant, pairs.discordant, pairs.tied));
+    }
+}
+
+#[test]
+fn cutoffs_run_from_nobody_to_everybody() {
+    let table = Table::of_rows(&[(5, 2), (1, 1)]);
+    let catches: Vec<(u64, u64, u64)> = cutoffs(&table)
+        .iter()
+        .map(|cutoff| (cutoff.caught, cutoff.missed, cutoff.lost))
+        .collect();
+    assert_eq!(catches, [(0, 3, 0), (1, 2, 0), (3, 0, 3)]);
+}
+
+#[test]
+fn own_spreads_are_lawful_and_distant_ones_are_not() {
+    for seed in 0..2_000 {
+        let table = reference::population::any_table(&mut Random::of_seed(seed));
+        let own = spread(&table);
+        let (total, residual) = (own.total.to_bits(), own.residual.to_bits());
+        assert!(lawful(&table, total, residual), "{table:?}");
+        let far = |float: f64, distance: f64| (float + distance).to_bits();
+        assert!(!lawful(&table, far(own.total, 0.5f64.powi(34)), residual));
+        assert!(!lawful(&table, total, far(own.residual, 0.5f64.powi(28))));
+    }
+}
+
+#[test]
+fn naturals_agree_with_wide_integers() {
+    let mut random = Random::of_seed(5);
+    for _ in 0..2_000 {
+        let shift = random.between(0, 63);
+        let (a, b) = (
+            random.bits() >> shift,
+            random.bits() >> random.between(0, 63),
+        );
+        let (one, other) = (Natural::from(a), Natural::from(b));
+        let wide = |number: u128| {
+            let high = Natural::from((number >> 64) as u64).doubled(64);
+            high.add(&Natural::from(number as u64))
+        };
+        assert_eq!(one.cmp(&other), a.cmp(&b));
+        assert_eq!(one.times(&other), wide(a as u128 * b as u128));
+        assert_eq!(one.add(&other), wide(a as u128 + b as u128));
+        assert_eq!(one.distance(&other), wide(a.abs_diff(b).into()));
+        assert_eq!(one.doubled(37), wide((a as u128) << 37));
+    }
+}
