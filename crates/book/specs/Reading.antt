@@ -1,9 +1,10 @@
 -- What reading the table of a rater out of a book answers.
 use Prim.Native.Nat.{ℕ, zero, suc}
-use mathlib.Core.List.{List}
+use mathlib.Core.List.{List, map}
 use Rattle.table.specs.Table.{Table, Grade}
 use Rattle.table.specs.Place.{fresh, placeOf}
 use Rattle.table.specs.Counts.{held}
+use Rattle.book.specs.Bytes.{stored}
 use Rattle.book.specs.Checks.{fault, first}
 use Rattle.book.specs.Layout.{headChecks, raterChecks, tablesFault}
 use Rattle.book.specs.Rows.{tableIn, tableFault}
@@ -34,3 +35,7 @@ readFault b j = first (fault (headChecks b)) (first (fault (raterChecks b j)) (f
 -- rater j of the book b
 abbrev pub reading : List ℕ → ℕ → Reading
 reading b j = answer (readFault b j) (tableIn b j)
+
+-- three columns in one list, from 0, 40 and 80 on, in which those of a table were stored
+abbrev pub columnsAfter : Table → List ℕ → List ℕ
+columnsAfter t before = stored (stored (stored before 0 (map (λ g. g .obligors) t)) 40 (map (λ g. g .defaults) t)) 80 (map (λ g. g .announced) t)

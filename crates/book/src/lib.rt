@@ -6,10 +6,13 @@ mod writer;
 
 pub use layout::layout_fault;
 pub use reader::read;
+pub use reader::read_fault;
 pub use reader::read_table;
+pub use reader::read_words;
 use table::Obligors;
 use table::Place;
 pub use writer::write;
+pub use writer::write_in;
 
 // The answer of a call that answers nothing further when it is accepted.
 pub enum Ack {

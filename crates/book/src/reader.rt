@@ -5,8 +5,8 @@ ghost use lib.ListN.{length};
 ghost use Rattle.table.specs.Counts.{held};
 ghost use Rattle.book.specs.Checks.{fault};
 ghost use Rattle.book.specs.Layout.{gradesAt, endOf};
-ghost use Rattle.book.specs.Rows.{obligorsBy, gradeIn, tableAt, rowChecks, tableFault};
-ghost use Rattle.book.specs.Reading.{gradeOf, heldGrade, refusal, answer, reading};
+ghost use Rattle.book.specs.Rows.{obligorsBy, gradeIn, tableAt, tableIn, rowChecks, tableFault};
+ghost use Rattle.book.specs.Reading.{gradeOf, heldGrade, refusal, answer, readFault, reading, columnsAfter};
 use crate::Ack;
 use crate::Reading;
 use crate::Row;
@@ -135,4 +135,82 @@ pub fn read(book: &[u8], rater: u32) -> Reading
         return refused(tables);
     }
     read_table(book, two_at(book, 2 + 2 * j))
+}
+
+// 0, or the number of the first fault of the table that starts at `start`: of its rows, one by one, and then of their total.
+fn rows_fault(b: &[u8], start: usize) -> u32
+    requires { ⌜ (endOf (now b) start ≤ length (now b)) × (gradesAt (now b) start ≤ 40) ⌝ }
+    ensures { λ r. ⌜ r ≡ tableFault (tableAt (now (b .entry)) start) ⌝ }
+{
+    let grades = byte_at(b, start);
+    let kind = byte_at(b, start + 1);
+    let mut total: u64 = 0;
+    let mut at = start + 4;
+    let mut i: usize = 0;
+    while i < grades {
+        let row = row_at(b, kind, at);
+        let n = row_fault(row);
+        if n != 0 {
+            return n;
+        }
+        total += row.obligors.0 as u64;
+        at += 12;
+        i += 1;
+    }
+    if total <= OBLIGORS as u64 { 0 } else { 11 }
+}
+
+// 0, or the number of the first fault that a reading of this rater's table finds.
+pub fn read_fault(book: &[u8], rater: u32) -> u32
+    ensures { λ r. ⌜ r ≡ readFault (now (book .entry)) rater ⌝ }
+{
+    let head = head_fault(book);
+    if head != 0 {
+        return head;
+    }
+    let j = rater as usize;
+    if j < 1 {
+        return 4;
+    }
+    if two_at(book, 0) < j {
+        return 4;
+    }
+    let tables = tables_fault(book);
+    if tables != 0 {
+        return tables;
+    }
+    rows_fault(book, two_at(book, 2 + 2 * j))
+}
+
+// Stores the columns of the table that starts at `start` at 0, 40 and 80, and answers its grade count.
+fn store_words(b: &[u8], start: usize, words: &mut [u32]) -> usize
+    requires inside { ⌜ (endOf (now b) start ≤ length (now b)) × (gradesAt (now b) start ≤ 40) ⌝ }
+    requires faultless { ⌜ tableFault (tableAt (now b) start) ≡ 0 ⌝ }
+    requires long { ⌜ 120 ≤ length (now words) ⌝ }
+    ensures { λ r. ⌜ (r ≡ length (tableAt (now (b .entry)) start))
+        × (now (words .exit) ≡ columnsAfter (tableAt (now (b .entry)) start) (now (words .entry))) ⌝ }
+{
+    let grades = byte_at(b, start);
+    let kind = byte_at(b, start + 1);
+    let mut at = start + 4;
+    let mut i: usize = 0;
+    while i < grades {
+        let row = row_at(b, kind, at);
+        words[i] = row.obligors.0;
+        words[GRADES + i] = row.defaults;
+        words[2 * GRADES + i] = row.announced;
+        at += 12;
+        i += 1;
+    }
+    grades
+}
+
+// Stores the columns of the rater's table, where a reading finds no fault, in the words of one place, and answers its grade count.
+pub fn read_words(book: &[u8], rater: u32, words: &mut [u32]) -> usize
+    requires faultless { ⌜ readFault (now book) rater ≡ 0 ⌝ }
+    requires long { ⌜ 120 ≤ length (now words) ⌝ }
+    ensures { λ r. ⌜ (r ≡ length (tableIn (now (book .entry)) rater))
+        × (now (words .exit) ≡ columnsAfter (tableIn (now (book .entry)) rater) (now (words .entry))) ⌝ }
+{
+    store_words(book, two_at(book, 2 + 2 * (rater as usize)), words)
 }

@@ -43,7 +43,7 @@ is-loaded : (b : Bool) → _≡_ {A = ℕ} (cond b 0 22) 0 → b ≡ true
 is-loaded true e = refl
 is-loaded false e = absurd (omega arith)
 
-table-sound : (d : Desk) → SoundDesk d → (i : ℕ) → heldFault d i ≡ 0 → Sound (tableAt d i)
+pub table-sound : (d : Desk) → SoundDesk d → (i : ℕ) → heldFault d i ≡ 0 → Sound (tableAt d i)
 unfolding heldFault
 table-sound d s i e =
     let f = held-first _ _ e in

@@ -10,7 +10,7 @@ use Rattle.table.specs.Place.{tableOf, placeOf}
 use Rattle.table.specs.Counts.{totalsOf}
 use Rattle.table.proofs.Placed.{placed-loaded}
 use Rattle.book.specs.Checks.{Check, at-most, equal}
-use Rattle.book.proofs.Checks.{Finds, found, go}
+use Rattle.book.proofs.Checks.{Finds, found, stop, go}
 use Rattle.desk.specs.declared.Desk.{Desk}
 use Rattle.desk.specs.declared.TotalsAnswer.{TotalsAnswer}
 use Rattle.desk.specs.declared.TotalsAnswer.the-variants.{Totals as Given, Refused}
@@ -48,6 +48,14 @@ totals-taken (holds u s) e h =
     record { ready = p; defaults = n .0; survivors = n .1 }
 
 -- Both places.
+
+pub first-empty : (d : Desk) → 22 ≡ emptyFault (d .first) → compareFault d ≡ 22
+unfolding compareFault
+first-empty d e = sym (stop _ e (λ z. omega arith))
+
+pub second-empty : (d : Desk) {a : Totals} → Taken (d .first) a → 22 ≡ emptyFault (d .second) → compareFault d ≡ 22
+unfolding compareFault
+second-empty d s e = sym (go (s .ready .loaded) (stop _ e (λ z. omega arith)))
 
 -- the checks of compare, of the totals
 abbrev pub checks : Totals → Totals → List Check

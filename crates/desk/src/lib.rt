@@ -1,5 +1,5 @@
 // The desk: two places side by side, and every call on them.
-// A method finds the place, or refuses; the function of its name in `on_place` makes the other checks.
+// A method finds the place, or refuses; the function of its name in `on_place` makes the other checks. Those of compare are in `compare`.
 ghost use mathlib.Core.Path.{_≡_};
 ghost use lib.ListN.{length};
 ghost use Rattle.book.specs.Encode.{bookSize};
@@ -11,14 +11,11 @@ ghost use Rattle.desk.specs.Desk.{freshDesk, SoundDesk};
 ghost use Rattle.desk.specs.Answers.{answer, ackSays, writtenSays, cheapestSays, compareSays, measuresSays, brierSays, spreadSays};
 ghost use Rattle.desk.specs.Calls.{tableAt, heldFault, loadFault, afterLoad, afterClear, poolFault, afterPool, cheapestFault, measuresFault, loadedTables, Compares, Spreads};
 
-mod numbers;
-mod on_place;
+pub mod compare;
+pub mod numbers;
+pub mod on_place;
 
-use crate::numbers::EMPTY;
-use crate::numbers::NO_DEFAULTS;
 use crate::numbers::NO_PLACE;
-use crate::numbers::NO_SURVIVORS;
-use crate::numbers::UNLIKE;
 use book::Ack;
 use book::Written;
 use cutoff::CheapestCutoff;
@@ -42,9 +39,9 @@ pub struct Stored {
 }
 
 // What load and clear make of one place, beside their answer.
-struct Changed {
-    place: Place,
-    ack: Ack,
+pub struct Changed {
+    pub place: Place,
+    pub ack: Ack,
 }
 
 pub enum CheapestAnswer {
@@ -73,7 +70,7 @@ pub enum SpreadAnswer {
 }
 
 // A place's answer to compare, which asks it for the totals of its table.
-enum TotalsAnswer {
+pub enum TotalsAnswer {
     Totals(Totals),
     Refused(u32),
 }
@@ -175,22 +172,20 @@ impl Desk {
         requires { ⌜ SoundDesk self ⌝ }
         ensures { λ r. ⌜ Compares self (compareSays r) ⌝ }
     {
-        let TotalsAnswer::Totals(a) = on_place::totals(self.first) else {
-            return CompareAnswer::Refused(EMPTY);
-        };
-        let TotalsAnswer::Totals(b) = on_place::totals(self.second) else {
-            return CompareAnswer::Refused(EMPTY);
-        };
-        if a.defaults == 0 || b.defaults == 0 {
-            return CompareAnswer::Refused(NO_DEFAULTS);
-        }
-        if a.survivors.0 == 0 || b.survivors.0 == 0 {
-            return CompareAnswer::Refused(NO_SURVIVORS);
-        }
-        if a.defaults != b.defaults || a.survivors.0 != b.survivors.0 {
-            return CompareAnswer::Refused(UNLIKE);
-        }
-        CompareAnswer::Verdict(cutoff::judge(self.first, self.second))
+        let first = self.first;
+        let second = self.second;
+        compare::compare_in(
+            &first.obligors,
+            &first.defaults,
+            &first.announced,
+            first.grades,
+            first.loaded,
+            &second.obligors,
+            &second.defaults,
+            &second.announced,
+            second.grades,
+            second.loaded,
+        )
     }
 
     // D, S and the four measures of the table in a place.

@@ -3,6 +3,7 @@ pub mod Magnitude
 pub mod Fractions
 pub mod Cutoffs
 pub mod Pairs
+pub mod Sizes
 pub mod Areas
 pub mod Curves
 pub mod Pietra

@@ -15,7 +15,7 @@ use Rattle.measures.specs.Claims.{Mixed}
 use Rattle.measures.proofs.Signed.{sub-le, higher-order}
 use Rattle.measures.proofs.Fractions.{over-signed}
 
-highest : (t : Table) → IsBest higher (height t) (length t) (pietraAt t)
+pub highest : (t : Table) → IsBest higher (height t) (length t) (pietraAt t)
 highest t = is-best higher higher-order (height t) (length t)
 
 -- The distance is y S - x D over D S.

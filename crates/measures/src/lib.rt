@@ -2,8 +2,9 @@
 ghost use Prim.Native.Nat.{_*_, _≤_};
 ghost use mathlib.Core.Path.{_≡_};
 ghost use lib.IntN.{subℕ};
+ghost use lib.ListN.{length};
 ghost use Rattle.table.specs.Table.{Sound, defaultsIn, survivorsIn};
-ghost use Rattle.table.specs.Place.{tableOf};
+ghost use Rattle.table.specs.Place.{tableOf, withColumns};
 ghost use Rattle.measures.specs.Measures.{pairCountsOf, highestOf, measuresOf};
 ghost use Rattle.measures.specs.Brier.{brierOf};
 use table::Obligors;
@@ -60,70 +61,91 @@ fn difference(a: u64, b: u64) -> i64
 }
 
 // From the worst grade to the best: each grade's survivors with the defaults in worse grades, and its defaults with the survivors there.
-fn count_pairs(p: Place) -> PairCounts
-    requires { ⌜ Sound (tableOf p) ⌝ }
-    ensures { λ r. ⌜ r ≡ pairCountsOf (tableOf p) ⌝ }
+fn count_pairs<'a>(
+    obligors: &'a [u32],
+    defaults: &'a [u32],
+    announced: &'a [u32],
+    grades: usize,
+) -> PairCounts
+    requires long { ⌜ (grades ≤ length (now obligors)) × (grades ≤ length (now defaults)) ⌝ }
+    requires sound { ⌜ Sound (tableOf (withColumns (now obligors) (now defaults) (now announced) grades)) ⌝ }
+    ensures { λ r. ⌜ r ≡ pairCountsOf (tableOf (withColumns (now (obligors .entry)) (now (defaults .entry)) (now (announced .entry)) grades)) ⌝ }
 {
-    let mut i = p.grades;
-    let mut defaults: u32 = 0;
+    let mut i = grades;
+    let mut defaulted: u32 = 0;
     let mut survivors = Survivors(0);
     let mut concordant: u64 = 0;
     let mut discordant: u64 = 0;
     while 0 < i {
         i -= 1;
-        let d = p.defaults[i];
-        let s = Obligors(p.obligors[i]).survivors(d);
-        concordant += product(s.0, defaults);
+        let d = defaults[i];
+        let s = Obligors(obligors[i]).survivors(d);
+        concordant += product(s.0, defaulted);
         discordant += product(d, survivors.0);
-        defaults += d;
+        defaulted += d;
         survivors = survivors.plus(s);
     }
     PairCounts {
         concordant,
         discordant,
-        defaults,
+        defaults: defaulted,
         survivors,
     }
 }
 
-// Cutoff by cutoff from none turned away, of which the height is 0, to all.
-fn highest(p: Place, defaults: u32, survivors: Survivors) -> HighestCutoff
-    requires { ⌜ Sound (tableOf p) ⌝ }
-    requires { ⌜ (defaults ≡ defaultsIn (tableOf p)) × (survivors .0 ≡ survivorsIn (tableOf p)) ⌝ }
-    ensures { λ r. ⌜ r ≡ highestOf (tableOf p) ⌝ }
+// Cutoff by cutoff from none turned away, of which the height is 0, to all. `defaulted` and `survivors` are the table's.
+fn highest<'a>(
+    obligors: &'a [u32],
+    defaults: &'a [u32],
+    announced: &'a [u32],
+    grades: usize,
+    defaulted: u32,
+    survivors: Survivors,
+) -> HighestCutoff
+    requires long { ⌜ (grades ≤ length (now obligors)) × (grades ≤ length (now defaults)) ⌝ }
+    requires sound { ⌜ Sound (tableOf (withColumns (now obligors) (now defaults) (now announced) grades)) ⌝ }
+    requires all_defaults { ⌜ defaulted ≡ defaultsIn (tableOf (withColumns (now obligors) (now defaults) (now announced) grades)) ⌝ }
+    requires all_survivors { ⌜ survivors .0 ≡ survivorsIn (tableOf (withColumns (now obligors) (now defaults) (now announced) grades)) ⌝ }
+    ensures { λ r. ⌜ r ≡ highestOf (tableOf (withColumns (now (obligors .entry)) (now (defaults .entry)) (now (announced .entry)) grades)) ⌝ }
 {
-    let mut i = p.grades;
+    let mut i = grades;
     let mut caught: u32 = 0;
     let mut lost = Survivors(0);
     let mut cutoff: u32 = 0;
     let mut height: i64 = 0;
     while 0 < i {
         i -= 1;
-        let d = p.defaults[i];
+        let d = defaults[i];
         caught += d;
-        lost = lost.plus(Obligors(p.obligors[i]).survivors(d));
-        let here = difference(product(caught, survivors.0), product(lost.0, defaults));
+        lost = lost.plus(Obligors(obligors[i]).survivors(d));
+        let here = difference(product(caught, survivors.0), product(lost.0, defaulted));
         if height < here {
             height = here;
-            cutoff = (p.grades - i) as u32;
+            cutoff = (grades - i) as u32;
         }
     }
     HighestCutoff { cutoff, height }
 }
 
-// The measures of the table in a place. Without a default or a survivor a denominator is 0.
-pub fn measure(p: Place) -> Measures
-    requires { ⌜ Sound (tableOf p) ⌝ }
-    ensures { λ r. ⌜ r ≡ measuresOf (tableOf p) ⌝ }
+// The measures of the table with these columns. Without a default or a survivor a denominator is 0.
+pub fn measure_in<'a>(
+    obligors: &'a [u32],
+    defaults: &'a [u32],
+    announced: &'a [u32],
+    grades: usize,
+) -> Measures
+    requires long { ⌜ (grades ≤ length (now obligors)) × (grades ≤ length (now defaults)) ⌝ }
+    requires sound { ⌜ Sound (tableOf (withColumns (now obligors) (now defaults) (now announced) grades)) ⌝ }
+    ensures { λ r. ⌜ r ≡ measuresOf (tableOf (withColumns (now (obligors .entry)) (now (defaults .entry)) (now (announced .entry)) grades)) ⌝ }
 {
-    let counts = count_pairs(p);
-    let defaults = counts.defaults;
+    let counts = count_pairs(obligors, defaults, announced, grades);
+    let defaulted = counts.defaults;
     let survivors = counts.survivors;
-    let top = highest(p, defaults, survivors);
-    let pairs = product(defaults, survivors.0);
-    let profile = product(defaults, survivors.with_defaults(defaults).0);
+    let top = highest(obligors, defaults, announced, grades, defaulted, survivors);
+    let pairs = product(defaulted, survivors.0);
+    let profile = product(defaulted, survivors.with_defaults(defaulted).0);
     Measures {
-        defaults,
+        defaults: defaulted,
         survivors,
         gini: SignedFraction {
             numerator: difference(counts.concordant, counts.discordant),
@@ -146,6 +168,14 @@ pub fn measure(p: Place) -> Measures
     }
 }
 
+// The measures of the table in a place.
+pub fn measure(p: Place) -> Measures
+    requires { ⌜ Sound (tableOf p) ⌝ }
+    ensures { λ r. ⌜ r ≡ measuresOf (tableOf p) ⌝ }
+{
+    measure_in(&p.obligors, &p.defaults, &p.announced, p.grades)
+}
+
 // The square of a difference in ppm, once for each of so many obligors.
 fn squares(count: u32, ppm: u32) -> u64
     requires { ⌜ (count ≤ 1_000_000) × (ppm ≤ 1_000_000) ⌝ }
@@ -154,26 +184,40 @@ fn squares(count: u32, ppm: u32) -> u64
     (count as u64) * product(ppm, ppm)
 }
 
+// The Brier score of the announced rates of the table with these columns.
+pub fn brier_in<'a>(
+    obligors: &'a [u32],
+    defaults: &'a [u32],
+    announced: &'a [u32],
+    grades: usize,
+) -> Fraction
+    requires long { ⌜ (grades ≤ length (now obligors)) × (grades ≤ length (now defaults)) × (grades ≤ length (now announced)) ⌝ }
+    requires sound { ⌜ Sound (tableOf (withColumns (now obligors) (now defaults) (now announced) grades)) ⌝ }
+    ensures { λ r. ⌜ r ≡ brierOf (tableOf (withColumns (now (obligors .entry)) (now (defaults .entry)) (now (announced .entry)) grades)) ⌝ }
+{
+    let mut i = grades;
+    let mut all = Obligors(0);
+    let mut sum: u64 = 0;
+    while 0 < i {
+        i -= 1;
+        let n = Obligors(obligors[i]);
+        let d = defaults[i];
+        let s = n.survivors(d);
+        let rate = announced[i];
+        let short = 1_000_000 - rate;
+        sum += squares(d, short) + squares(s.0, rate);
+        all = all.plus(n);
+    }
+    Fraction {
+        numerator: sum,
+        denominator: (all.0 as u64) * 1_000_000_000_000,
+    }
+}
+
 // The Brier score of the announced rates of the table in a place.
 pub fn brier(p: Place) -> Fraction
     requires { ⌜ Sound (tableOf p) ⌝ }
     ensures { λ r. ⌜ r ≡ brierOf (tableOf p) ⌝ }
 {
-    let mut i = p.grades;
-    let mut obligors = Obligors(0);
-    let mut sum: u64 = 0;
-    while 0 < i {
-        i -= 1;
-        let n = Obligors(p.obligors[i]);
-        let d = p.defaults[i];
-        let s = n.survivors(d);
-        let announced = p.announced[i];
-        let short = 1_000_000 - announced;
-        sum += squares(d, short) + squares(s.0, announced);
-        obligors = obligors.plus(n);
-    }
-    Fraction {
-        numerator: sum,
-        denominator: (obligors.0 as u64) * 1_000_000_000_000,
-    }
+    brier_in(&p.obligors, &p.defaults, &p.announced, p.grades)
 }

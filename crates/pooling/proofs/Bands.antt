@@ -1,12 +1,13 @@
--- The band of a block is the smallest that holds its rate, and 14 where none does.
+-- The band of a block is the smallest that holds its rate, and 14 where none does. Of two rates the lower has no higher band.
 use Prim.Native.Nat.{ℕ, zero, suc, _+_, _*_, _≤_, _<_}
 use mathlib.Core.Path.{_≡_}
-use native.Mathlib.Nat.{not-le-of-lt}
+use native.Mathlib.Nat.{not-le-of-lt, mul-le-mul-left, mul-le-mul-right, le-of-mul-le-mul-left, pow-le-pow-right}
 use native.Mathlib.Decide.{decLe}
 use native.Mathlib.Omega.{arith}
 use lib.Dec.{leb, leb→le, nleb→lt}
+use Rattle.table.proofs.Arithmetic.{factor-pos}
 use Rattle.table.proofs.Test.{by-test}
-use Rattle.pooling.specs.Pool.{Block}
+use Rattle.pooling.specs.Pool.{Block, RateBelow}
 use Rattle.pooling.specs.Band.{bandLimit, RateWithin, bandFrom, bandOf, IsBand}
 
 -- Band b holds the rate, or the search goes on.
@@ -41,3 +42,30 @@ band-first x b (suc k) =
 
 pub band-right : (x : Block) → IsBand x (bandOf x)
 band-right x = let f = band-first x 0 14 in record { within = f .within; holds = f .holds; smallest = λ a l h. f .smallest a (omega arith) l h }
+
+module _ (x : Block) (b : ℕ) where
+  -- The limit of b holds the rate.
+  pub band-at-most : RateWithin x (bandLimit b) → bandOf x ≤ b
+  band-at-most h = elim (decLe (bandOf x) b) [ yes l ↦ l | no l ↦ absurd (band-right x .smallest b (omega arith) h) ]
+
+  -- The limit of b is below the rate.
+  pub band-above : b < 14 → bandLimit b * x .obligors < x .defaults * 1_000_000 → b < bandOf x
+  band-above l h =
+      elim (decLe (bandOf x) b) [
+        | yes k ↦
+            let w = band-right x .holds (omega arith) in
+            absurd (omega (arith, mul-le-mul-right (x .obligors) (mul-le-mul-left 100 (pow-le-pow-right {n = 2} (omega arith) k))))
+        | no k ↦ omega arith
+      ]
+
+-- d of n below e of m, and e of m within a limit
+within-below : (d n e m ppm : ℕ) → d * m < e * n → e * 1_000_000 ≤ ppm * m → d * 1_000_000 ≤ ppm * n
+within-below d n e zero ppm b h = absurd (omega (arith, factor-pos 0 n e (omega arith)))
+within-below d n e (suc m) ppm b h = le-of-mul-le-mul-left {k = suc m} (omega (arith, mul-le-mul-right n h)) (omega arith)
+
+pub bands-rise : (x y : Block) → RateBelow x y → bandOf x ≤ bandOf y
+bands-rise x y below =
+    elim (decLe 14 (bandOf y)) [
+      | yes h ↦ omega (arith, band-right x .within)
+      | no h ↦ band-at-most x (bandOf y) (within-below (x .defaults) (x .obligors) _ _ _ below (band-right y .holds (omega arith)))
+    ]

@@ -1,7 +1,8 @@
 -- Joining blocks: a goal about `front` by its two outcomes, the rates that it makes rise, and what it keeps of every block.
-use Prim.Native.Nat.{_*_, _≤_}
+use Prim.Native.Nat.{ℕ, zero, suc, _*_, _≤_}
 use mathlib.Core.List.{List, [], _∷_}
 use lib.Dec.{ltb→lt, nltb→le}
+use lib.ListN.{drop}
 use Rattle.table.specs.Table.{Table, Every}
 use Rattle.table.proofs.Test.{by-test}
 use Rattle.pooling.specs.Pool.{Block, single, join, RateBelow, rateBelow, front, pool, Rising}
@@ -22,6 +23,12 @@ pub rising-tail : (b : Block) (bs : List Block) → Rising (b ∷ bs) → Rising
 unfolding Rising
 rising-tail b [] h = tt
 rising-tail b (c ∷ bs) h = h .1
+
+pub rising-drop : (bs : List Block) (m : ℕ) → Rising bs → Rising (drop m bs)
+unfolding Rising
+rising-drop bs zero h = h
+rising-drop [] (suc m) h = tt
+rising-drop (b ∷ bs) (suc m) h = rising-drop bs m (rising-tail b bs h)
 
 front-rising : (b : Block) (bs : List Block) → Rising bs → Rising (front b bs)
 unfolding Rising front

@@ -5,7 +5,7 @@ use mathlib.Core.List.{List, [], _∷_, map}
 use native.Mathlib.Nat.{add-assoc}
 use native.Mathlib.Numerals.{one-add}
 use native.Mathlib.Omega.{arith}
-use lib.ListN.{drop}
+use lib.ListN.{length, drop}
 use Rattle.table.specs.Table.{Table, Every, Occupied, Counted, defaultsIn, obligorsIn}
 use Rattle.pooling.specs.Pool.{Block, single, join, front, pool, asGrade, pooledScale, blockOf}
 use Rattle.pooling.proofs.Front.{front-cases, pool-every}
@@ -30,6 +30,9 @@ pub sum-pool : (t : Table) → sumOf (pool t) ≡ blockOf t
 unfolding sumOf pool obligorsIn defaultsIn
 sum-pool [] = refl
 sum-pool (r ∷ t) = sum-front (single r) (pool t) ∙ rw (sum-pool t, one-add)
+
+pub grades-count : (t : Table) → sumOf (pool t) .grades ≡ length t
+grades-count t = ap (λ b. b .grades) (sum-pool t)
 
 -- A block before others that pools a table holds, with them, all of the table.
 pub sum-all : (b : Block) (bs : List Block) (t : Table) → front b bs ≡ pool t → join b (sumOf bs) ≡ blockOf t

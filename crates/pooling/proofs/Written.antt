@@ -1,6 +1,6 @@
 -- What pool writes: three numbers a grade, in which the pooled rates stand, and behind them what stood there before.
 use Prim.Native.Nat.{ℕ, zero, suc, _+_, _*_, _≤_}
-use mathlib.Core.Path.{_≡_, refl, ap, _∙_}
+use mathlib.Core.Path.{_≡_, refl, _∙_}
 use mathlib.Core.List.{List, [], _∷_, _++_, append-assoc}
 use native.Mathlib.Nat.{zero-add}
 use native.Mathlib.Omega.{arith}
@@ -10,10 +10,7 @@ use Rattle.table.specs.Table.{Table}
 use Rattle.pooling.specs.Pool.{Block, pool}
 use Rattle.pooling.specs.Regression.{rateOf, ratesIn, pooledRates}
 use Rattle.pooling.specs.Numbers.{gradesOf, numbersOf, pooledInto, ratesWritten}
-use Rattle.pooling.proofs.Joined.{sumOf, sum-pool}
-
-grades-count : (t : Table) → sumOf (pool t) .grades ≡ length t
-grades-count t = ap (λ b. b .grades) (sum-pool t)
+use Rattle.pooling.proofs.Joined.{sumOf, grades-count}
 
 -- The rates.
 

@@ -7,7 +7,7 @@ use native.Mathlib.Omega.{arith}
 use lib.ListN.{length}
 use Rattle.table.specs.declared.Place.{Place}
 use Rattle.table.specs.Table.{Table, Grade, Every, Occupied, Counted, Rated, Sound, defaultsIn, survivorsIn, obligorsIn}
-use Rattle.table.specs.Place.{gradeAt, gradesFrom, tableOf}
+use Rattle.table.specs.Place.{gradeAt, gradesFrom, tableOf, withColumns}
 use Rattle.table.proofs.Sums.{obligors-split}
 
 -- grade i and all worse ones
@@ -37,6 +37,15 @@ pub length-grades : (p : Place) (i k : ℕ) → length (gradesFrom p i k) ≡ k
 unfolding gradesFrom
 length-grades p i zero = refl
 length-grades p i (suc k) = ap suc (length-grades p (suc i) k)
+
+-- The table of a place is that of its columns.
+pub columns-table : (p : Place) → tableOf (withColumns (p .obligors) (p .defaults) (p .announced) (p .grades)) ≡ tableOf p
+unfolding gradesFrom
+columns-table p = same 0 (p .grades)
+  where
+    same : (i k : ℕ) → gradesFrom (withColumns (p .obligors) (p .defaults) (p .announced) (p .grades)) i k ≡ gradesFrom p i k
+    same i zero = refl
+    same i (suc k) = ap (λ (t : Table). gradeAt p i ∷ t) (same (suc i) k)
 
 -- What holds of a table holds of each suffix.
 

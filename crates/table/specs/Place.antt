@@ -1,6 +1,6 @@
 -- The table in a place. A place (document 01's term) is room for one table on the desk.
 use Prim.Native.Nat.{ℕ, zero, suc, _-_}
-use mathlib.Core.Bool.{true, false}
+use mathlib.Core.Bool.{Bool, true, false}
 use mathlib.Core.List.{List, [], _∷_, _++_, map}
 use lib.ListN.{length, getD, replicate}
 use Rattle.table.specs.Table.{Table, Grade}
@@ -28,6 +28,15 @@ gradesFrom p i (suc k) = gradeAt p i ∷ gradesFrom p (suc i) k
 
 abbrev pub tableOf : Place → Table
 tableOf p = gradesFrom p 0 (p .grades)
+
+-- the place with these columns, of which the first `grades` numbers count
+abbrev pub lentPlace : List ℕ → List ℕ → List ℕ → ℕ → Bool → Place
+lentPlace obligors defaults announced grades loaded =
+    record { obligors = obligors; defaults = defaults; announced = announced; grades = grades; loaded = loaded }
+
+-- the loaded one
+abbrev pub withColumns : List ℕ → List ℕ → List ℕ → ℕ → Place
+withColumns obligors defaults announced grades = lentPlace obligors defaults announced grades true
 
 -- a grade that nothing was stored in
 abbrev pub blank : Grade

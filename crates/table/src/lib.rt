@@ -1,8 +1,9 @@
 // A grade table in a place of the desk, its counts and its totals.
 ghost use Prim.Native.Nat.{_+_, _-_, _≤_};
 ghost use mathlib.Core.Path.{_≡_};
+ghost use lib.ListN.{length};
 ghost use Rattle.table.specs.Table.{Sound};
-ghost use Rattle.table.specs.Place.{fresh, tableOf};
+ghost use Rattle.table.specs.Place.{fresh, tableOf, withColumns};
 ghost use Rattle.table.specs.Counts.{largest, held, totalsOf};
 
 // The most grades of a table.
@@ -90,18 +91,32 @@ impl Place {
         requires { ⌜ Sound (tableOf self) ⌝ }
         ensures { λ r. ⌜ r ≡ totalsOf (tableOf self) ⌝ }
     {
-        let mut i = self.grades;
-        let mut defaults: u32 = 0;
-        let mut obligors = Obligors(0);
-        while 0 < i {
-            i -= 1;
-            defaults += self.defaults[i];
-            obligors = obligors.plus(Obligors(self.obligors[i]));
-        }
-        Totals {
-            defaults,
-            survivors: obligors.survivors(defaults),
-            obligors,
-        }
+        totals_in(&self.obligors, &self.defaults, &self.announced, self.grades)
+    }
+}
+
+// The totals of the table with these columns.
+pub fn totals_in<'a>(
+    obligors: &'a [u32],
+    defaults: &'a [u32],
+    announced: &'a [u32],
+    grades: usize,
+) -> Totals
+    requires long { ⌜ (grades ≤ length (now obligors)) × (grades ≤ length (now defaults)) ⌝ }
+    requires sound { ⌜ Sound (tableOf (withColumns (now obligors) (now defaults) (now announced) grades)) ⌝ }
+    ensures { λ r. ⌜ r ≡ totalsOf (tableOf (withColumns (now (obligors .entry)) (now (defaults .entry)) (now (announced .entry)) grades)) ⌝ }
+{
+    let mut i = grades;
+    let mut sum: u32 = 0;
+    let mut all = Obligors(0);
+    while 0 < i {
+        i -= 1;
+        sum += defaults[i];
+        all = all.plus(Obligors(obligors[i]));
+    }
+    Totals {
+        defaults: sum,
+        survivors: all.survivors(sum),
+        obligors: all,
     }
 }

@@ -4,10 +4,12 @@ use mathlib.Core.Path.{_≡_}
 use mathlib.Core.List.{_∷_}
 use native.Mathlib.Omega.{arith}
 use borrow.Author.Needs.{needs}
+use denote.Ref.{now}
+use lib.ListN.{getD}
 use Rattle.table.specs.declared.Place.{Place}
 use Rattle.table.specs.declared.Survivors.{Survivors}
 use Rattle.table.specs.Table.{survivors, defaultsIn, survivorsIn, obligorsIn}
-use Rattle.table.specs.Place.{gradeAt, tableOf}
+use Rattle.table.specs.Place.{gradeAt, tableOf, withColumns}
 use Rattle.table.proofs.Arithmetic.{times-eq}
 use Rattle.table.proofs.Suffix.{suffix, suffix-all, suffix-end, Turn, turn}
 use Rattle.measures.specs.declared.PairCounts.{PairCounts}
@@ -25,44 +27,53 @@ record Passed (p : Place) (i d c x : ℕ) (s : Survivors) : Type 0 where
   pub all-discordant : x ≡ discordant (suffix p i)
 
 abbrev Inv-loop : tie.InvT-loop
-Inv-loop p i₀ d₀ s₀ c₀ x₀ i d s c x = Passed p i d c x s
+Inv-loop obligors defaults announced grades i₀ d₀ s₀ c₀ x₀ i d s c x = Passed (withColumns obligors defaults announced grades) i d c x s
 
 abbrev μ-loop : tie.MeasureT-loop
-μ-loop p i₀ d₀ s₀ c₀ x₀ i d s c x = i
+μ-loop obligors defaults announced grades i₀ d₀ s₀ c₀ x₀ i d s c x = i
 
 loop-holds : tie.Need-loop-holds Inv-loop μ-loop
 unfolding defaultsIn survivorsIn concordant discordant
 loop-holds c =
-    let none = suffix-end (c .args .t1) (c .args .t1 .grades) (omega arith) in
+    let a = c .before .before .before .args in
+    let none = suffix-end (withColumns (now (a .obligors)) (now (a .defaults)) (now (a .announced)) (a .grades)) (a .grades) (omega arith) in
     record { inside = omega arith; all-defaults = rw none; all-survivors = rw none; all-concordant = rw none; all-discordant = rw none }
 
-at : (c : tie.In-loop Inv-loop μ-loop) → Turn (c .before .before .args .t1) (c .before .loop .i)
-at c = turn _ _ (c .before .before .pre) (c .loop-test .taken) (c .before .loop .inv .inside)
+at : (c : tie.In-loop Inv-loop μ-loop) →
+    let a = c .before .before .before .before .before .args in
+    Turn (withColumns (now (a .obligors)) (now (a .defaults)) (now (a .announced)) (a .grades)) (c .before .loop .i)
+at c = turn _ _ (c .before .before .before .before .before .pre .1) (c .loop-test .taken) (c .before .loop .inv .inside)
 
 -- The pairs that a turn adds.
 
 more-concordant : (c : tie.After-product Inv-loop μ-loop) →
     let l = c .before .before .before .before .before in
-    l .loop .concordant + c .product .result ≡ concordant (gradeAt (l .before .args .t1) (l .loop .i - 1) ∷ suffix (l .before .args .t1) (l .loop .i))
+    let a = l .before .before .before .before .args in
+    let p = withColumns (now (a .obligors)) (now (a .defaults)) (now (a .announced)) (a .grades) in
+    l .loop .concordant + c .product .result ≡ concordant (gradeAt p (l .loop .i - 1) ∷ suffix p (l .loop .i))
 unfolding concordant
 more-concordant c =
     let l = c .before .before .before .before .before in
+    let a = l .before .before .before .before .args in
+    let p = withColumns (now (a .obligors)) (now (a .defaults)) (now (a .announced)) (a .grades) in
     let d = times-eq (c .before .survivors .result .0) (l .loop .inv .all-defaults) in
-    let s = times-eq (defaultsIn (suffix (l .before .args .t1) (l .loop .i))) (c .before .survivors .ensures) in
+    let s = times-eq (defaultsIn (suffix p (l .loop .i))) (c .before .survivors .ensures) in
     omega (arith, c .product .ensures)
 
 more-discordant : (c : tie.After-product2 Inv-loop μ-loop) →
     let l = c .before .before .before .before .before .before in
-    l .loop .discordant + c .product2 .result ≡ discordant (gradeAt (l .before .args .t1) (l .loop .i - 1) ∷ suffix (l .before .args .t1) (l .loop .i))
+    let a = l .before .before .before .before .args in
+    let p = withColumns (now (a .obligors)) (now (a .defaults)) (now (a .announced)) (a .grades) in
+    l .loop .discordant + c .product2 .result ≡ discordant (gradeAt p (l .loop .i - 1) ∷ suffix p (l .loop .i))
 unfolding discordant
 more-discordant c =
     let l = c .before .before .before .before .before .before in
-    let s = times-eq (gradeAt (l .before .args .t1) (l .loop .i - 1) .defaults) (l .loop .inv .all-survivors) in
+    let s = times-eq (getD (now (l .before .before .before .before .args .defaults)) (l .loop .i - 1) 0) (l .loop .inv .all-survivors) in
     omega (arith, c .product2 .ensures)
 
-add-defaults : tie.Need-add-defaults Inv-loop μ-loop
+add-defaulted : tie.Need-add-defaulted Inv-loop μ-loop
 unfolding defaultsIn obligorsIn
-add-defaults c = let f = at (c .before .before .before .before .before) in omega arith
+add-defaulted c = let f = at (c .before .before .before .before .before) in omega arith
 
 plus-requires : tie.Need-plus-requires Inv-loop μ-loop
 unfolding survivorsIn obligorsIn
@@ -97,15 +108,15 @@ count-pairs-spec =
     loop-holds
     (λ c. search needs)
     (λ c. let f = at c in omega arith)
-    (λ c. let f = at c in omega arith)
+    (λ c. let f = at (c .before) in omega (arith, c .before .before .before .before .before .before .pre .0))
     (λ c. let f = at (c .before) in omega arith)
-    (λ c. let f = at (c .before) in omega arith)
+    (λ c. let f = at (c .before .before) in omega (arith, c .before .before .before .before .before .before .before .pre .0))
     (λ c κs. let f = at (c .before .before) in omega arith)
     (λ c κs. search needs)
     (λ c. omega (arith, more-concordant c, few-pairs (at (c .before .before .before .before) .here)))
     (λ c κs. search needs)
     (λ c. omega (arith, more-discordant c, few-pairs (at (c .before .before .before .before .before) .here)))
-    add-defaults
+    add-defaulted
     plus-requires
     (λ c. search needs)
     loop-again

@@ -5,6 +5,7 @@ use mathlib.Core.Bool.{Bool, true, false, cond}
 use native.Mathlib.Nat.{sub-self, zero-mul}
 use native.Mathlib.Omega.{arith}
 use borrow.Author.Needs.{needs}
+use denote.Ref.{now}
 use lib.ListN.{length}
 use lib.IntN.{ℤ, pos, subℕ}
 use lib.Signed.{ltZ}
@@ -14,7 +15,7 @@ use mir.ValLaws.{toZ-ofZ}
 use Rattle.table.specs.declared.Place.{Place}
 use Rattle.table.specs.declared.Survivors.{Survivors}
 use Rattle.table.specs.Table.{Table, Sound, survivors, defaultsIn, survivorsIn, obligorsIn}
-use Rattle.table.specs.Place.{gradeAt, tableOf}
+use Rattle.table.specs.Place.{gradeAt, tableOf, withColumns}
 use Rattle.table.proofs.Arithmetic.{counts-le}
 use Rattle.table.proofs.Suffix.{suffix, suffix-end, length-grades, Turn, turn, small, sound-small}
 use Rattle.cutoff.specs.Best.{best}
@@ -92,19 +93,23 @@ unfolding defaultsIn survivorsIn
 none t = rw (turned-none t, zero-mul (survivorsIn t), zero-mul (defaultsIn t))
 
 abbrev Inv-loop : tie.InvT-loop
-Inv-loop d s p i₀ y₀ x₀ g₀ h₀ i y x g h = Tried p i y x g h
+Inv-loop obligors defaults announced grades d s i₀ y₀ x₀ g₀ h₀ i y x g h = Tried (withColumns obligors defaults announced grades) i y x g h
 
 abbrev μ-loop : tie.MeasureT-loop
-μ-loop d s p i₀ y₀ x₀ g₀ h₀ i y x g h = i
+μ-loop obligors defaults announced grades d s i₀ y₀ x₀ g₀ h₀ i y x g h = i
 
 loop-holds : tie.Need-loop-holds Inv-loop μ-loop
 unfolding defaultsIn survivorsIn best
 loop-holds c =
-    let end = suffix-end (c .args .t1) (c .args .t1 .grades) (omega arith) in
-    record { inside = omega arith; caught = rw end; lost = rw end; cutoff = rw sub-self; high = rw sub-self (none (tableOf (c .args .t1))) }
+    let a = c .before .before .before .args in
+    let p = withColumns (now (a .obligors)) (now (a .defaults)) (now (a .announced)) (a .grades) in
+    let end = suffix-end p (p .grades) (omega arith) in
+    record { inside = omega arith; caught = rw end; lost = rw end; cutoff = rw sub-self; high = rw sub-self (none (tableOf p)) }
 
-at : (c : tie.In-loop Inv-loop μ-loop) → Turn (c .before .before .args .t1) (c .before .loop .i)
-at c = turn _ _ (c .before .before .pre .0) (c .loop-test .taken) (c .before .loop .inv .inside)
+at : (c : tie.In-loop Inv-loop μ-loop) →
+    let a = c .before .before .before .before .before .args in
+    Turn (withColumns (now (a .obligors)) (now (a .defaults)) (now (a .announced)) (a .grades)) (c .before .loop .i)
+at c = turn _ _ (c .before .before .before .before .before .pre .1 .0) (c .loop-test .taken) (c .before .loop .inv .inside)
 
 add-caught : tie.Need-add-caught Inv-loop μ-loop
 unfolding defaultsIn obligorsIn
@@ -115,13 +120,16 @@ unfolding survivorsIn obligorsIn
 plus-requires c κs = let f = at (c .before .before .before) in omega (arith, c .survivors .ensures)
 
 reached : (c : tie.After-product2 Inv-loop μ-loop) →
-    let a = c .before .before .before .before .before .before .before in
-    Next (a .before .args .t1) (a .loop .i) (a .loop .caught + gradeAt (a .before .args .t1) (a .loop .i - 1) .defaults)
+    let l = c .before .before .before .before .before .before .before in
+    let a = l .before .before .before .before .args in
+    let p = withColumns (now (a .obligors)) (now (a .defaults)) (now (a .announced)) (a .grades) in
+    Next p (l .loop .i) (l .loop .caught + gradeAt p (l .loop .i - 1) .defaults)
     (c .before .before .plus .result) (c .before .product .result) (c .product2 .result)
 reached c =
-    let a = c .before .before .before .before .before .before .before in
-    next (a .before .pre .0) (a .before .pre .1) (c .before .before .before .before .before .before .loop-test .taken)
-    (at (c .before .before .before .before .before .before)) (a .loop .inv)
+    let l = c .before .before .before .before .before .before .before in
+    let pre = l .before .before .before .before .pre in
+    next (pre .1 .0) (pre .1 .1) (c .before .before .before .before .before .before .loop-test .taken)
+    (at (c .before .before .before .before .before .before)) (l .loop .inv)
     (c .before .before .before .survivors .ensures) (c .before .before .plus .ensures) (c .before .product .ensures) (c .product2 .ensures)
 
 difference-requires : tie.Need-difference-requires Inv-loop μ-loop
@@ -155,10 +163,10 @@ highest-spec =
     loop-holds
     (λ c. search needs)
     (λ c. let f = at c in omega arith)
-    (λ c. let f = at c in omega arith)
+    (λ c. let f = at (c .before) in omega (arith, c .before .before .before .before .before .before .pre .0))
     add-caught
     (λ c. let f = at (c .before) in omega arith)
-    (λ c. let f = at (c .before) in omega arith)
+    (λ c. let f = at (c .before .before) in omega (arith, c .before .before .before .before .before .before .before .pre .0))
     (λ c κs. let f = at (c .before .before) in omega arith)
     plus-requires
     (λ c κs. search needs)

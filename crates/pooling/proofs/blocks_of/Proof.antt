@@ -1,168 +1,22 @@
--- `blocks_of` meets its contract. The invariant: the block in hand before those of `items` from `top` on gives the blocks of the grades
--- from grade i on. The measure: a join takes one block away, and each of the i grades left can add one.
-use Prim.Native.Nat.{ℕ, _+_, _-_, _*_, _≤_, _<_}
-use mathlib.Core.Path.{_≡_, refl, ap, sym, _∙_}
-use mathlib.Core.Bool.{true, false}
-use mathlib.Core.List.{List, _∷_}
-use mathlib.Core.Logic.{⊎-elim}
+-- `blocks_of` meets its contract: they are the blocks of its columns.
+use mathlib.Core.Path.{_≡_, _∙_, ap}
 use native.Mathlib.Omega.{arith}
-use borrow.Author.Needs.{needs}
-use borrow.Author.Tests.{not-true, not-false}
-use lib.ListN.{length, drop, set, length-set, drop-of-length-le}
-use Rattle.table.specs.Table.{Sound}
-use Rattle.table.specs.Place.{gradeAt, tableOf}
-use Rattle.table.specs.Counts.{largest}
-use Rattle.table.specs.declared.Place.{Place}
-use Rattle.table.proofs.Suffix.{suffix, suffix-all, suffix-end, length-grades, small, turn}
-use Rattle.pooling.specs.Pool.{Block, single, join, rateBelow, front, pool}
-use Rattle.pooling.proofs.Items.{itemAt, items-from, items-stored}
-use Rattle.pooling.proofs.Joined.{sumOf, sum-all}
+use lib.ListN.{length, length-map}
+use Rattle.table.proofs.Suffix.{columns-table, length-grades}
+use Rattle.pooling.specs.Pool.{pool}
 use Rattle.pooling.proofs.blocks_of.Statement.{statement}
 use Rattle.pooling.proofs.blocks_of.Tie as tie
 
--- The counts of two blocks together fit in 32 bits.
-abbrev Joinable : Block → Block → Type 0
-Joinable b c = (b .grades + c .grades ≤ largest) × ((b .obligors + c .obligors ≤ largest) × (b .defaults + c .defaults ≤ largest))
+blocks-in-requires : tie.Need-blocks-in-requires
+blocks-in-requires c κs =
+    let a = c .before .before .before .before .before .before .before in
+    let p = a .args .t1 in
+    let n : length (p .obligors) ≡ 40 = simp length-map at (a .good .0 .1 .1 .0 .1 .0 .1) in
+    let d : length (p .defaults) ≡ 40 = simp length-map at (a .good .0 .1 .1 .1 .0 .1 .0 .1) in
+    ((omega (arith, length-grades p 0 (p .grades), a .pre .few), omega (arith, length-grades p 0 (p .grades), a .pre .few)), rw (columns-table p) (a .pre))
 
-record Pooled (p : Place) (i : ℕ) (b : Block) (items : List Block) (top : ℕ) : Type 0 where
-  pub inside : i < p .grades
-  pub room : i < top
-  pub short : top ≤ 40
-  pub long : length items ≡ 40
-  pub same : front b (drop top items) ≡ pool (suffix p i)
-
--- The block in hand stays before the others.
-abbrev Stays : Place → ℕ → Block → List Block → ℕ → Type 0
-Stays p i b items top = b ∷ drop top items ≡ pool (suffix p i)
-
--- What a turn does: it joins the block in hand with the next, or it stores it.
-module _ {p : Place} {i : ℕ} {b : Block} {items : List Block} {top : ℕ} (inv : Pooled p i b items top) where
-  module _ (h : top < 40) where
-    split : drop top items ≡ itemAt items top ∷ drop (top + 1) items
-    split = items-from items top (omega arith)
-
-    fits : Sound (tableOf p) → Joinable b (itemAt items top)
-    unfolding sumOf
-    fits sound =
-        let e = rw split at (sum-all b (drop top items) (suffix p i) (inv .same)) in
-        let s = small p i sound (omega arith) in
-        (omega (arith, ap (λ x. x .grades) e), (omega (arith, ap (λ x. x .obligors) e), omega (arith, ap (λ x. x .defaults) e)))
-
-    joins : rateBelow b (itemAt items top) ≡ false → Pooled p i (join b (itemAt items top)) items (top + 1)
-    unfolding front
-    joins e = record {
-      inside = inv .inside;
-      room = omega arith;
-      short = omega arith;
-      long = inv .long;
-      same = rw (split, e) at (inv .same);
-    }
-
-    below : rateBelow b (itemAt items top) ≡ true → Stays p i b items top
-    unfolding front
-    below e = rw split (rw (split, e) at (inv .same))
-
-  alone : 40 ≤ top → Stays p i b items top
-  unfolding front
-  alone h =
-      let l : length items ≤ top = omega arith in
-      let n = drop-of-length-le items l in
-      rw n (rw n at (inv .same))
-
-  stored : Stays p i b items top → drop (top - 1) (set items (top - 1) b) ≡ pool (suffix p i)
-  stored e = items-stored items top b (omega arith) (omega arith) ∙ e
-
-  next-grade : Sound (tableOf p) → 0 < i → Stays p i b items top → Pooled p (i - 1) (single (gradeAt p (i - 1))) (set items (top - 1) b) (top - 1)
-  unfolding pool
-  next-grade sound pos e = record {
-    inside = omega arith;
-    room = omega arith;
-    short = omega arith;
-    long = simp length-set (inv .long);
-    same = rw (turn p i sound pos (omega arith) .down, stored e);
-  }
-
-abbrev Inv-loop : tie.InvT-loop
-Inv-loop p i₀ b₀ items₀ top₀ i b items top = Pooled p i b items top
-
-abbrev μ-loop : tie.MeasureT-loop
-μ-loop p i₀ b₀ items₀ top₀ i b items top = 2 * i + (40 - top)
-
-sized : (p : Place) → Sound (tableOf p) → (1 ≤ p .grades) × (p .grades ≤ 40)
-sized p sound = let n = length-grades p 0 (p .grades) in (omega (arith, sound .some), omega (arith, sound .few))
-
-loop-holds : tie.Need-loop-holds Inv-loop μ-loop
-unfolding pool front
-loop-holds c =
-    let p = c .before .before .before .args .t1 in
-    let n = sized p (c .before .before .before .pre) in
-    let e = turn p (p .grades) (c .before .before .before .pre) (omega arith) (omega arith) .down in
-    record {
-      inside = omega arith;
-      room = omega arith;
-      short = omega arith;
-      long = refl;
-      same = rw (e, suffix-end p (p .grades) (omega arith), c .of-grade .ensures);
-    }
-
-loop-again : tie.Need-loop-again Inv-loop μ-loop
-loop-again c =
-    let a = c .before .before .before in
-    rw (c .joined .ensures)
-    (joins (a .before .before .loop .inv) (a .before .if1 .taken) (sym (c .before .before .is-below .ensures) ∙ not-true _ (c .before .if2 .taken)))
-
--- Where no join is made, there is no other block, or the rate is below that of the next.
-kept : (c : tie.Joined1 Inv-loop μ-loop)
-    → Stays (c .before .before .before .before .before .args .t1) (c .before .loop .i) (c .before .loop .b) (c .before .loop .items) (c .before .loop .top)
-kept c =
-    let inv = c .before .loop .inv in
-    ⊎-elim
-    (λ w. below inv (w .0 .taken) (sym (w .2 .ensures) ∙ not-false _ (w .3 .left)))
-    (λ w. alone inv (w .left))
-    (c .if1 .came)
-
-returns : tie.Need-returns Inv-loop μ-loop
-returns c =
-    let a = c .before .before in
-    let p = a .before .before .before .before .args .t1 in
-    let all = suffix-all p (a .loop .i) (c .if3 .taken) in
-    (rw (← all) (stored (a .loop .inv) (kept (c .before))), omega arith)
-
-loop-again-2 : tie.Need-loop-again-2 Inv-loop μ-loop
-loop-again-2 c =
-    let a = c .before .before .before .before in
-    let sound = a .before .before .before .before .before .pre in
-    rw (c .of-grade2 .ensures) (next-grade (a .before .loop .inv) sound (omega arith) (kept a))
+returns : tie.Need-returns
+returns c = (c .blocks-in .ensures .0 ∙ ap pool (columns-table _), c .blocks-in .ensures .1)
 
 pub blocks-of-spec : {M : Type 1} → statement M
-blocks-of-spec =
-    tie.close
-    (tie.spec
-    Inv-loop
-    μ-loop
-    (λ c. let n = sized _ (c .pre) in omega arith)
-    (λ c. let n = sized _ (c .pre) in omega arith)
-    (λ c. let n = sized _ (c .pre) in omega arith)
-    (λ c. let n = sized _ (c .before .pre) in omega arith)
-    (λ c. let n = sized _ (c .before .pre) in omega arith)
-    (λ c κs. search needs)
-    loop-holds
-    (λ c. search needs)
-    (λ c. search needs)
-    (λ c κs. search needs)
-    (λ c κs. fits (c .before .before .before .before .loop .inv) (c .before .before .before .if1 .taken) (c .before .before .before .before .before .before .before .before .pre))
-    (λ c. search needs)
-    (λ c. omega arith)
-    loop-again
-    (λ c. omega arith)
-    (λ c. omega arith)
-    (λ c. omega arith)
-    returns
-    (λ c. omega arith)
-    (λ c. omega arith)
-    (λ c. omega arith)
-    (λ c. omega arith)
-    (λ c. omega arith)
-    (λ c κs. search needs)
-    (λ c. omega arith)
-    loop-again-2)
+blocks-of-spec = tie.close (tie.spec blocks-in-requires returns)

@@ -4,7 +4,6 @@ use mathlib.Core.Path.{_≡_, refl}
 use mathlib.Core.List.{List, _++_}
 use native.Mathlib.Numerals.{add-one}
 use native.Mathlib.Omega.{arith}
-use borrow.Author.Needs.{needs}
 use lib.ListN.{length, take, drop, length-set, take-append-drop}
 use Rattle.pooling.specs.Pool.{Block}
 use Rattle.pooling.specs.Band.{bandOf}
@@ -20,10 +19,10 @@ record Written (x : Block) (end : ℕ) (out₀ out : List ℕ) (at k : ℕ) : Ty
   pub same : out ≡ take at out₀ ++ gradesOf x k (drop end out₀)
 
 abbrev Inv-loop : tie.InvT-loop
-Inv-loop x end out₀ band at₀ k₀ out at k = Written x end out₀ out at k
+Inv-loop x band end out₀ at₀ k₀ out at k = Written x end out₀ out at k
 
 abbrev μ-loop : tie.MeasureT-loop
-μ-loop x end out₀ band at₀ k₀ out at k = x .grades - k
+μ-loop x band end out₀ at₀ k₀ out at k = x .grades - k
 
 loop-holds : tie.Need-loop-holds Inv-loop μ-loop
 unfolding gradesOf
@@ -33,21 +32,21 @@ loop-again : tie.Need-loop-again Inv-loop μ-loop
 unfolding gradesOf
 loop-again c =
     let a = c .before .before in
-    let z = a .before .before .before .args in
+    let z = a .before .args in
     let rest = gradesOf (z .x) (a .loop .k) (drop (z .end) (z .out .now)) in
     record {
       long = simp length-set (a .loop .inv .long);
       count = omega arith;
       within = omega arith;
       same =
-          rw (add-one (a .loop .k), a .loop .inv .same, a .before .band .ensures)
+          rw (add-one (a .loop .k), a .loop .inv .same, a .before .pre .0)
           (put-three (z .out .now) rest (a .loop .at) (a .loop .at - 3) (z .x .defaults) (z .x .obligors) (bandOf (z .x)) (omega arith) (omega arith));
     }
 
 returns : tie.Need-returns Inv-loop μ-loop
 returns c =
     let a = c .before .before in
-    let z = a .before .before .before .args in
+    let z = a .before .args in
     let start : z .end - 3 * z .x .grades ≡ a .loop .at = omega arith in
     let k : a .loop .k ≡ z .x .grades = omega arith in
     rw start (rw k at (a .loop .inv .same))
@@ -58,7 +57,6 @@ write-block-spec =
     (tie.spec
     Inv-loop
     μ-loop
-    (λ c κs. search needs)
     loop-holds
     (λ c. omega arith)
     (λ c. omega arith)

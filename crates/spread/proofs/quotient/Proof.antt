@@ -16,27 +16,25 @@ in-float : (n : ℕ) → n ≤ 2 ^ 53 → T (inFloat binary64 (pos n))
 unfolding inFloat
 in-float n h = le→leb n (2 ^ 53) h
 
-product-small : (d s : ℕ) → d + s ≤ 1_000_000 → d * s ≤ 1_000_000_000_000
-product-small d s h = counts-le {a = d} {b = s} (omega arith) (omega arith)
+product-small : (c : tie.After-survivors) → c .before .args .defaults * c .survivors .result .0 ≤ 1_000_000_000_000
+product-small c = counts-le {a = c .before .args .defaults} {b = c .survivors .result .0} (omega arith) (omega (arith, c .survivors .ensures))
 
 mul-result : tie.Need-mul-result
-mul-result c = omega (arith, product-small (c .before .before .args .defaults) (c .before .before .args .survivors .0) (omega arith))
+mul-result c = omega (arith, product-small (c .before))
 
 int-to-float-result : tie.Need-int-to-float-result
-int-to-float-result c =
-    let a = c .before .before .before in
-    in-float _ (omega (arith, product-small (a .args .defaults) (a .args .survivors .0) (omega arith)))
+int-to-float-result c = in-float _ (omega (arith, product-small (c .before .before)))
 
 returns : tie.Need-returns
 returns c =
     let w = c .before .before .before in
     let d = w .before .args .defaults in
-    let s = w .before .args .survivors .0 in
-    let all : w .with-defaults .result .0 ≡ d + s = omega (arith, w .with-defaults .ensures) in
+    let s = w .survivors .result .0 in
+    let all : d + s ≡ w .before .args .obligors .0 = omega (arith, w .survivors .ensures) in
     let product = product-le d s 1_000_000 (omega arith) in
     let above = whole-value binary64 (d * s) (omega arith) in
     let below = whole-value binary64 (d + s) (omega arith) in
-    rw all (div-near binary64 18 36 refl _ _ (d * s) (d + s) above below (omega arith) (omega arith))
+    rw (← w .survivors .ensures, ← all) (div-near binary64 18 36 refl _ _ (d * s) (d + s) above below (omega arith) (omega arith))
 
 pub quotient-spec : {M : Type 1} → statement M
 quotient-spec =

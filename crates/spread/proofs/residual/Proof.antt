@@ -30,22 +30,15 @@ Next b i sum = Added (blocksIn b) (itemAt (b .items) i ∷ drop (i + 1) (b .item
 next : (c : tie.In-loop Inv-loop μ-loop) → Next (c .before .before .args .t1) (c .before .loop .i) (c .before .loop .sum)
 next c = rw (items-from (c .before .before .args .t1 .items) (c .before .loop .i) (omega arith)) at (c .before .loop .inv .1)
 
-survivors-requires : tie.Need-survivors-requires Inv-loop μ-loop
-survivors-requires c κs = counts _ (c .before .before .before .pre) _ _ _ (next (c .before)) .1
-
 quotient-requires : tie.Need-quotient-requires Inv-loop μ-loop
 quotient-requires c κs =
-    let n = counts _ (c .before .before .before .before .pre) _ _ _ (next (c .before .before)) in
-    omega (arith, c .survivors .ensures)
+    let n = counts _ (c .before .before .before .pre) _ _ _ (next (c .before)) in
+    omega arith
 
 loop-again : tie.Need-loop-again Inv-loop μ-loop
 loop-again c =
-    let a = c .before .before .before in
-    let p = a .before .before .pre in
-    let n = counts _ p _ _ _ (next a) in
-    let x = itemAt (a .before .before .args .t1 .items) (a .before .loop .i) in
-    let all : x .defaults + (x .obligors - x .defaults) ≡ x .obligors = omega arith in
-    (a .before .loop .inv .0, step _ p _ _ _ (next a) _ (rw (c .before .survivors .ensures, all) at (c .quotient .ensures)))
+    let a = c .before .before in
+    (a .before .loop .inv .0, step _ (a .before .before .pre) _ _ _ (next a) _ (c .quotient .ensures))
 
 returns : tie.Need-returns Inv-loop μ-loop
 returns c =
@@ -62,7 +55,6 @@ residual-spec =
     loop-holds
     (λ c. omega arith)
     (λ c. omega arith)
-    survivors-requires
     quotient-requires
     (λ c. omega arith)
     (λ c. omega arith)

@@ -4,8 +4,9 @@ use mathlib.Core.Path.{_≡_, refl, sym, _∙_}
 use mathlib.Core.List.{List}
 use native.Mathlib.Omega.{arith}
 use lib.ListN.{length}
+use denote.Ref.{now}
 use Rattle.table.specs.declared.Place.{Place}
-use Rattle.table.specs.Place.{gradeAt, tableOf}
+use Rattle.table.specs.Place.{gradeAt, tableOf, withColumns}
 use Rattle.table.proofs.Suffix.{suffix, suffix-all, suffix-end, suffix-at}
 use Rattle.book.specs.Bytes.{stored}
 use Rattle.book.specs.Encode.{encodeGrade, encodeGrades}
@@ -33,13 +34,20 @@ put p whole size start out at i next inv h e =
     }
 
 abbrev Inv-loop : tie.InvT-loop
-Inv-loop out₀ start p at₀ i₀ out at i = Put p (stored out₀ start (encodeGrades (tableOf p))) (length out₀) start out at i
+Inv-loop out₀ start obligors defaults announced grades at₀ i₀ out at i =
+    let p = withColumns obligors defaults announced grades in
+    Put p (stored out₀ start (encodeGrades (tableOf p))) (length out₀) start out at i
 
 abbrev μ-loop : tie.MeasureT-loop
-μ-loop out₀ start p at₀ i₀ out at i = p .grades - i
+μ-loop out₀ start obligors defaults announced grades at₀ i₀ out at i = grades - i
+
+abbrev place : tie.Start Inv-loop μ-loop → Place
+place c = withColumns (now (c .args .obligors)) (now (c .args .defaults)) (now (c .args .announced)) (c .args .grades)
 
 loop-holds : tie.Need-loop-holds Inv-loop μ-loop
-loop-holds c = record { to = omega arith; here = omega arith; long = refl; rest = rw (suffix-all (c .before .args .t3) 0 refl) }
+loop-holds c =
+    let a = c .before .before .before .before in
+    record { to = omega arith; here = omega arith; long = refl; rest = rw (suffix-all (place a) 0 refl) }
 
 loop-again : tie.Need-loop-again Inv-loop μ-loop
 loop-again c =
@@ -50,7 +58,7 @@ returns : tie.Need-returns Inv-loop μ-loop
 unfolding encodeGrades
 returns c =
     let a = c .before in
-    let e = suffix-end (a .before .before .args .t3) (a .loop .i) (omega arith) in
+    let e = suffix-end (place (a .before .before .before .before .before)) (a .loop .i) (omega arith) in
     sym (stored-none _ _) ∙ (rw e at (a .loop .inv .rest))
 
 pub put-rows-spec : {M : Type 1} → statement M

@@ -1,43 +1,35 @@
--- `write` meets its contract.
+-- `write` meets its contract: it lends its places' fields.
+use Prim.Native.Nat.{_≤_}
+use mathlib.Core.Path.{_≡_}
+use native.Mathlib.Omega.{arith}
 use borrow.Author.Needs.{needs}
-use Rattle.book.proofs.Books.{nothing, tables-are}
+use lib.ListN.{length, length-map}
+use Rattle.table.specs.declared.Place.{Place}
 use Rattle.book.proofs.writer.write.Statement.{statement}
 use Rattle.book.proofs.writer.write.Tie as tie
 
-returns : tie.Need-returns
-returns c =
-    let a = c .before .before .before .before in
-    let i = a .before .before .before .args in
-    rw (tables-are (i .first) (i .second) (a .before .if1 .taken) (a .if2 .taken)) (c .before .before .write-two .ensures)
+abbrev Long : Place → Type 0
+Long p = (p .grades ≤ length (p .obligors)) × (p .grades ≤ length (p .defaults)) × (p .grades ≤ length (p .announced))
 
-returns-2 : tie.Need-returns-2
-returns-2 c =
-    let a = c .before .before .before .before in
-    let i = a .before .before .before .args in
-    rw (tables-are (i .first) (i .second) (a .before .if1 .taken) (a .if2 .left)) (c .before .before .write-one .ensures)
+-- every place has room for its grades
+first-long : (a : tie.Start) → Long (a .args .t1)
+first-long a =
+    let p = a .args .t1 in
+    let n : length (p .obligors) ≡ 40 = simp length-map at (a .good .0 .1 .1 .0 .1 .0 .1) in
+    let d : length (p .defaults) ≡ 40 = simp length-map at (a .good .0 .1 .1 .1 .0 .1 .0 .1) in
+    let w : length (p .announced) ≡ 40 = simp length-map at (a .good .0 .1 .1 .1 .1 .0 .1 .0 .1) in
+    (omega (arith, a .pre .0), omega (arith, a .pre .0), omega (arith, a .pre .0))
 
-returns-3 : tie.Need-returns-3
-returns-3 c =
-    let a = c .before .before .before .before in
-    let i = a .before .before .before .args in
-    rw (tables-are (i .first) (i .second) (a .before .if1 .left) (a .if3 .taken)) (c .before .before .write-one2 .ensures)
+second-long : (a : tie.Start) → Long (a .args .t2)
+second-long a =
+    let p = a .args .t2 in
+    let n : length (p .obligors) ≡ 40 = simp length-map at (a .good .1 .0 .1 .1 .0 .1 .0 .1) in
+    let d : length (p .defaults) ≡ 40 = simp length-map at (a .good .1 .0 .1 .1 .1 .0 .1 .0 .1) in
+    let w : length (p .announced) ≡ 40 = simp length-map at (a .good .1 .0 .1 .1 .1 .1 .0 .1 .0 .1) in
+    (omega (arith, a .pre .1), omega (arith, a .pre .1), omega (arith, a .pre .1))
 
-returns-4 : tie.Need-returns-4
-returns-4 c =
-    let i = c .before .before .before .args in
-    rw (tables-are (i .first) (i .second) (c .before .if1 .left) (c .if3 .left)) (nothing _)
+write-in-requires : tie.Need-write-in-requires
+write-in-requires c κs = let a = c .before .before .before .before .before .before .before .before .before .before .before .before .before .before .before .before in (first-long a, (second-long a, (a .pre .0, a .pre .1)))
 
 pub write-spec : {M : Type 1} → statement M
-write-spec =
-    tie.close
-    (tie.spec
-    (λ c κs. search needs)
-    (λ c κs. search needs)
-    (λ c κs. search needs)
-    (λ c. search needs)
-    returns
-    (λ c. search needs)
-    returns-2
-    (λ c. search needs)
-    returns-3
-    returns-4)
+write-spec = tie.close (tie.spec write-in-requires (λ c. search needs) (λ c. c .before .before .write-in .ensures))

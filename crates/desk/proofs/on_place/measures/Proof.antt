@@ -1,41 +1,7 @@
 -- `measures` of a place meets its contract.
-use mathlib.Core.Path.{_≡_, ap}
-use native.Mathlib.Omega.{arith}
-use Rattle.table.specs.Table.{Table, defaultsIn, survivorsIn}
-use Rattle.measures.specs.declared.Measures.{Measures}
-use Rattle.measures.specs.Measures.{measuresOf}
-use Rattle.book.proofs.Checks.{found, none, pass, over, stop, go}
-use Rattle.desk.proofs.Places.{is-empty, Ready, ready}
-use Rattle.desk.proofs.Answered.{refuses, accepts}
+use borrow.Author.Needs.{needs}
 use Rattle.desk.proofs.on_place.measures.Statement.{statement}
 use Rattle.desk.proofs.on_place.measures.Tie as tie
 
-returns : tie.Need-returns
-returns c = refuses 22 _ (stop _ (is-empty (c .before .before .pre) (c .if1 .taken)) (λ z. omega arith)) (λ z. omega arith)
-
-at : (c : tie.Else1) → Ready (c .before .before .args .p)
-at c = ready (c .before .before .pre) (c .if1 .left)
-
--- D and S as measured
-counted : {m : Measures} (t : Table) → m ≡ measuresOf t → (m .defaults ≡ defaultsIn t) × (m .survivors .0 ≡ survivorsIn t)
-unfolding measuresOf
-counted t e = (ap (λ m. m .defaults) e, ap (λ m. m .survivors .0) e)
-
-returns-2 : tie.Need-returns-2
-returns-2 c =
-    let n = counted _ (c .before .before .measure .ensures) in
-    refuses 23 _ (go (at (c .before .before .before) .loaded) (found (over (omega arith)))) (λ z. omega arith)
-
-returns-3 : tie.Need-returns-3
-returns-3 c =
-    let n = counted _ (c .before .before .before .before .measure .ensures) in
-    refuses 24 _ (go (at (c .before .before .before .before .before) .loaded) (found (pass (omega arith) (over (omega arith))))) (λ z. omega arith)
-
-returns-4 : tie.Need-returns-4
-returns-4 c =
-    let e = c .before .before .before .before .measure .ensures in
-    let n = counted _ e in
-    accepts (go (at (c .before .before .before .before .before) .loaded) (found (pass (omega arith) (pass (omega arith) none)))) e
-
 pub measures-spec : {M : Type 1} → statement M
-measures-spec = tie.close (tie.spec returns (λ c κs. at c .sound) returns-2 returns-3 returns-4)
+measures-spec = tie.close (tie.spec (λ c κs. search needs) (λ c. search needs))

@@ -1,0 +1,83 @@
+-- `read_fault` meets its contract.
+use Prim.Native.Nat.{ℕ}
+use mathlib.Core.Path.{_≡_, refl, sym, _∙_}
+use mathlib.Core.List.{List}
+use native.Mathlib.Omega.{arith}
+use borrow.Author.Needs.{needs}
+use Rattle.book.specs.Checks.{fault}
+use Rattle.book.specs.Layout.{headChecks, raterChecks, tablesFault}
+use Rattle.book.specs.Reading.{readFault}
+use Rattle.book.proofs.Checks.{held, found, none, pass, over, stop, go}
+use Rattle.book.proofs.Stands.{stands, Stands}
+use Rattle.book.proofs.reader.read_fault.Statement.{statement}
+use Rattle.book.proofs.reader.read_fault.Tie as tie
+
+returns : tie.Need-returns
+unfolding readFault
+returns c = stop _ (c .before .head-fault .ensures) (c .if1 .taken)
+
+abbrev bytes : tie.Else1 → List ℕ
+bytes c = c .before .before .before .args .book .now
+
+abbrev rater : tie.Else1 → ℕ
+rater c = c .before .before .before .args .rater
+
+-- what is known behind each test
+
+headed : (c : tie.Else1) → fault (headChecks (bytes c)) ≡ 0
+headed c = sym (c .before .head-fault .ensures) ∙ c .if1 .left
+
+returns-2 : tie.Need-returns-2
+unfolding readFault raterChecks
+returns-2 c = go (headed (c .before)) (stop _ (found (over (omega arith))) (λ z. omega arith))
+
+two-at-requires : tie.Need-two-at-requires
+unfolding headChecks
+two-at-requires c κs = let h = held _ (headed (c .before)) in omega arith
+
+returns-3 : tie.Need-returns-3
+unfolding readFault raterChecks
+returns-3 c = go (headed (c .before .before .before)) (stop _ (found (pass (omega arith) (over (omega arith)))) (λ z. omega arith))
+
+asked : (c : tie.Else3) → let a = c .before .before .before in fault (raterChecks (bytes a) (rater a)) ≡ 0
+unfolding raterChecks
+asked c = sym (found (pass (omega arith) (pass (omega arith) none)))
+
+returns-4 : tie.Need-returns-4
+unfolding readFault
+returns-4 c =
+    let a = c .before .before in
+    go (headed (a .before .before .before)) (go (asked a) (stop _ (c .before .tables-fault .ensures) (c .if4 .taken)))
+
+laid : (c : tie.Else4) → tablesFault (bytes (c .before .before .before .before .before)) ≡ 0
+laid c = sym (c .before .tables-fault .ensures) ∙ c .if4 .left
+
+standing : (c : tie.Else4) → let a = c .before .before .before .before .before in Stands (bytes a) (rater a)
+standing c = stands _ _ (headed (c .before .before .before .before .before)) (omega arith) (omega arith) (laid c)
+
+rows-fault-requires : tie.Need-rows-fault-requires
+rows-fault-requires c κs = let s = standing (c .before) in rw (c .two-at2 .ensures .0) (s .inside, s .few)
+
+returns-5 : tie.Need-returns-5
+unfolding readFault
+returns-5 c =
+    let a = c .before .before in
+    c .rows-fault .ensures ∙ rw (c .before .two-at2 .ensures .0)
+    (go (headed (a .before .before .before .before .before)) (go (asked (a .before .before)) (go (laid a) refl)))
+
+pub read-fault-spec : {M : Type 1} → statement M
+read-fault-spec =
+    tie.close
+    (tie.spec
+    (λ c κs. search needs)
+    returns
+    returns-2
+    two-at-requires
+    returns-3
+    (λ c κs. search needs)
+    returns-4
+    (λ c. search needs)
+    (λ c. search needs)
+    (λ c κs. let s = standing c in omega arith)
+    rows-fault-requires
+    returns-5)

@@ -1,0 +1,147 @@
+-- `rows_fault` meets its contract. The invariant: the total is that of the first i rows, and the rows from row i on have the fault that all have.
+use Prim.Native.Nat.{ℕ, _+_, _-_, _*_, _≤_, _<_}
+use mathlib.Core.Path.{_≡_, refl, sym, ap, _∙_}
+use mathlib.Core.List.{List, [], _∷_, _++_}
+use native.Mathlib.Nat.{sub-zero}
+use native.Mathlib.Numerals.{add-one}
+use native.Mathlib.Omega.{arith}
+use borrow.Author.Needs.{needs}
+use Rattle.table.specs.Table.{Table, Grade, obligorsIn}
+use Rattle.table.proofs.Sums.{obligors-append}
+use Rattle.book.specs.declared.Row.{Row}
+use Rattle.book.specs.Checks.{fault}
+use Rattle.book.specs.Layout.{gradesAt, kindAt}
+use Rattle.book.specs.Rows.{gradeIn, gradesIn, tableAt, rowChecks, rowsFault, totalChecks, tableFault}
+use Rattle.book.specs.Reading.{gradeOf, heldGrade}
+use Rattle.book.proofs.Checks.{found, none, pass, over, first-none, first-some}
+use Rattle.book.proofs.Rows.{rows-end, rows-at, rows-more, heldTable, held-more, held-le, held-exact, held-fault, by-rows, by-total}
+use Rattle.book.proofs.reader.rows_fault.Statement.{statement}
+use Rattle.book.proofs.reader.rows_fault.Tie as tie
+
+-- the rows read, and the rows to come
+abbrev read : List ℕ → ℕ → ℕ → Table
+read b start i = heldTable (gradesIn b (kindAt b start) i (start + 4))
+
+abbrev rest : List ℕ → ℕ → ℕ → ℕ → Table
+rest b start at i = gradesIn b (kindAt b start) (gradesAt b start - i) at
+
+record Swept (b : List ℕ) (start total at i : ℕ) : Type 0 where
+  pub to : i ≤ gradesAt b start
+  pub here : at ≡ start + 4 + 12 * i
+  pub small : total ≤ i * 4_294_967_295
+  pub faults : rowsFault (rest b start at i) ≡ rowsFault (tableAt b start)
+  pub sum : total ≡ obligorsIn (read b start i)
+
+record Turn (b : List ℕ) (start total at i n : ℕ) (r : Row) : Type 0 where
+  pub stops : (n ≡ 0 → ⊥) → n ≡ tableFault (tableAt b start)
+  pub goes : n ≡ 0 → Swept b start (total + r .obligors .0) (at + 12) (i + 1)
+
+turn : (b : List ℕ) (start total at i n : ℕ) (r : Row) → Swept b start total at i → i < gradesAt b start → gradesAt b start ≤ 40 → r .defaults ≤ 4_294_967_295
+    → gradeOf r ≡ heldGrade (gradeIn b (kindAt b start) at) → n ≡ fault (rowChecks (gradeOf r)) → Turn b start total at i n r
+unfolding rowsFault obligorsIn
+turn b start total at i n r inv h few w e en =
+    let k = kindAt b start in
+    let g = gradeIn b k at in
+    let low : r .obligors .0 ≤ 4_294_967_295 = omega (arith, ap (λ (x : Grade). x .obligors) e) in
+    let q : n ≡ fault (rowChecks g) = en ∙ rw e (held-fault g (omega (arith, ap (λ (x : Grade). x .defaults) e))) in
+    let fs = rw (rows-at b k (gradesAt b start) i at h, ← q) at (inv .faults) in
+    let more : read b start (i + 1) ≡ read b start i ++ gradeOf r ∷ [] =
+    rw (add-one i, rows-more b k i (start + 4), held-more (gradesIn b k i (start + 4)), e, inv .here) in
+    record {
+      stops = λ z. by-rows (tableAt b start) n z (sym fs ∙ first-some n _ z);
+      goes = λ z. record {
+        to = omega arith;
+        here = omega arith;
+        small = omega arith;
+        faults = sym (first-none n _ z) ∙ fs;
+        sum = rw (more, obligors-append) (omega (arith, inv .sum));
+      };
+    }
+
+-- after the last row
+record Ended (b : List ℕ) (start total : ℕ) : Type 0 where
+  pub faultless : rowsFault (tableAt b start) ≡ 0
+  pub sum : total ≡ obligorsIn (heldTable (tableAt b start))
+
+ended : (b : List ℕ) (start total at i : ℕ) → Swept b start total at i → gradesAt b start ≤ i → Ended b start total
+unfolding rowsFault
+ended b start total at i inv h =
+    let e : i ≡ gradesAt b start = omega (arith, inv .to) in
+    record {
+      faultless = sym (rw (rows-end b (kindAt b start) (gradesAt b start) i at h) at (inv .faults));
+      sum = rw e at (inv .sum);
+    }
+
+above : (b : List ℕ) (start total : ℕ) → Ended b start total → 1_000_000 < total → 11 ≡ tableFault (tableAt b start)
+unfolding totalChecks
+above b start total f h =
+    let t = tableAt b start in
+    by-total t 11 (f .faultless) (found (over (omega (arith, held-le t, f .sum))))
+
+within : (b : List ℕ) (start total : ℕ) → Ended b start total → total ≤ 1_000_000 → 0 ≡ tableFault (tableAt b start)
+unfolding totalChecks
+within b start total f h =
+    let t = tableAt b start in
+    let s = held-exact t (omega (arith, f .sum)) in
+    let g = rw s at (f .sum) in
+    by-total t 0 (f .faultless) (found (pass (omega (arith, g)) none))
+
+abbrev Inv-loop : tie.InvT-loop
+Inv-loop b start grades kind total₀ at₀ i₀ total at i = Swept b start total at i
+
+abbrev μ-loop : tie.MeasureT-loop
+μ-loop b start grades kind total₀ at₀ i₀ total at i = grades - i
+
+loop-holds : tie.Need-loop-holds Inv-loop μ-loop
+unfolding gradesIn obligorsIn
+loop-holds c = record { to = omega arith; here = omega arith; small = omega arith; faults = rw sub-zero; sum = refl }
+
+now-at : (c : tie.After-row-fault Inv-loop μ-loop)
+    → Turn
+    (c .before .before .before .before .before .before .before .args .b .now)
+    (c .before .before .before .before .before .before .before .args .start)
+    (c .before .before .before .loop .total)
+    (c .before .before .before .loop .at)
+    (c .before .before .before .loop .i)
+    (c .row-fault .result)
+    (c .before .row-at .result)
+now-at c =
+    turn _ _ _ _ _ _ _ (c .before .before .before .loop .inv) (omega arith) (omega arith) (omega arith)
+    (c .before .row-at .ensures ∙ rw (c .before .before .before .before .byte-at2 .ensures .0))
+    (c .row-fault .ensures)
+
+returns : tie.Need-returns Inv-loop μ-loop
+returns c = now-at (c .before) .stops (c .if1 .taken)
+
+loop-again : tie.Need-loop-again Inv-loop μ-loop
+loop-again c = now-at (c .before .before) .goes (c .before .if1 .left)
+
+returns-2 : tie.Need-returns-2 Inv-loop μ-loop
+returns-2 c = within _ _ _ (ended _ _ _ _ _ (c .before .before .loop .inv) (omega arith)) (c .if2 .taken)
+
+returns-3 : tie.Need-returns-3 Inv-loop μ-loop
+returns-3 c = above _ _ _ (ended _ _ _ _ _ (c .before .before .loop .inv) (omega arith)) (c .if2 .left)
+
+pub rows-fault-spec : {M : Type 1} → statement M
+rows-fault-spec =
+    tie.close
+    (tie.spec
+    Inv-loop
+    μ-loop
+    (λ c κs. omega arith)
+    (λ c. omega arith)
+    (λ c κs. omega arith)
+    (λ c. omega arith)
+    loop-holds
+    (λ c κs. omega arith)
+    (λ c κs. search needs)
+    returns
+    (λ c. search needs)
+    (λ c. omega arith)
+    (λ c. omega arith)
+    (λ c. omega arith)
+    (λ c. omega arith)
+    loop-again
+    (λ c. search needs)
+    returns-2
+    returns-3)

@@ -1,0 +1,53 @@
+-- Numbers of an answer that are stored as signed ones.
+use Prim.Native.Nat.{ℕ, _≤_}
+use mathlib.Core.Path.{_≡_, refl}
+use mathlib.Core.List.{List, [], _∷_}
+use native.Mathlib.Omega.{arith}
+use lib.IntN.{ℤ, pos}
+use mir.Syntax.{w64}
+use mir.Val.{SFits, toZ, ofZ}
+use mir.ValLaws.{toZ-pos, toZ-ofZ}
+use Rattle.measures.specs.declared.Measures.{Measures}
+use Rattle.measures.proofs.Sizes.{FewPairs}
+use Rattle.desk_c.specs.Numbers.{measuresNumbers}
+
+pub signed : (n : ℕ) → n ≤ 1_000_000_000_000_000_000 → toZ w64 n ≡ pos n
+signed n h = toZ-pos w64 n (omega arith)
+
+-- The numbers of a table's measures, each as 64 bits read as a signed number.
+abbrev pub stores : Measures → List ℤ
+stores m =
+    toZ w64 (m .defaults)
+    ∷ toZ w64 (m .survivors .0)
+    ∷ toZ w64 (ofZ w64 (m .gini .numerator))
+    ∷ toZ w64 (m .gini .denominator)
+    ∷ toZ w64 (m .roc .numerator)
+    ∷ toZ w64 (m .roc .denominator)
+    ∷ toZ w64 (m .cap .numerator)
+    ∷ toZ w64 (m .cap .denominator)
+    ∷ toZ w64 (ofZ w64 (m .pietra .numerator))
+    ∷ toZ w64 (m .pietra .denominator)
+    ∷ toZ w64 (m .cutoff)
+    ∷ []
+
+pub record Signed (m : Measures) : Type 0 where
+  pub gini : SFits w64 (m .gini .numerator)
+  pub pietra : SFits w64 (m .pietra .numerator)
+  pub few : FewPairs m
+
+pub stores-numbers : (m : Measures) → Signed m → stores m ≡ measuresNumbers m
+stores-numbers m s =
+    let f = s .few in
+    rw (
+      signed (m .defaults) (omega (arith, f .counts)),
+      signed (m .survivors .0) (omega (arith, f .counts)),
+      toZ-ofZ w64 (m .gini .numerator) (s .gini),
+      signed (m .gini .denominator) (omega (arith, f .gini)),
+      signed (m .roc .numerator) (omega (arith, f .roc)),
+      signed (m .roc .denominator) (omega (arith, f .roc)),
+      signed (m .cap .numerator) (omega (arith, f .cap)),
+      signed (m .cap .denominator) (omega (arith, f .cap)),
+      toZ-ofZ w64 (m .pietra .numerator) (s .pietra),
+      signed (m .pietra .denominator) (omega (arith, f .pietra)),
+      signed (m .cutoff) (omega (arith, f .cutoff)),
+    ) refl

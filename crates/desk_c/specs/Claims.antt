@@ -1,0 +1,15 @@
+-- What is proved of images, beside the contracts. Each claim is proved in proofs/Claims.antt under its name.
+use mathlib.Core.Path.{_≡_}
+use mathlib.Core.List.{List}
+use Rattle.desk.specs.declared.Desk.{Desk}
+use Rattle.desk.specs.Desk.{SoundDesk}
+use Rattle.desk.specs.History.{Call, deskAfter}
+use Rattle.desk_c.specs.Image.{imageOf, deskIn, IsImage}
+
+-- An image is read back as the desk that it is of.
+abbrev pub ImagesReadBack : Type 0
+ImagesReadBack = (d : Desk) → SoundDesk d → deskIn (imageOf d) ≡ d
+
+-- What a function requires of a desk's numbers is what calls from the fresh desk imply, and nothing more.
+abbrev pub CallsLeaveImages : Type 0
+CallsLeaveImages = (calls : List Call) → IsImage (imageOf (deskAfter calls))

@@ -1,0 +1,120 @@
+-- `brier_in` meets its contract. The invariant: the sums are those of the grades from grade i on, at most 10^12 for each obligor.
+use Prim.Native.Nat.{ℕ, _+_, _-_, _*_, _≤_}
+use mathlib.Core.Path.{_≡_}
+use native.Mathlib.Omega.{arith}
+use borrow.Author.Needs.{needs}
+use denote.Ref.{now}
+use lib.ListN.{getD}
+use Rattle.table.specs.declared.Place.{Place}
+use Rattle.table.specs.declared.Obligors.{Obligors}
+use Rattle.table.specs.Table.{survivors, obligorsIn}
+use Rattle.table.specs.Place.{gradeAt, tableOf, withColumns}
+use Rattle.table.proofs.Arithmetic.{times-eq}
+use Rattle.table.proofs.Suffix.{suffix, suffix-all, suffix-end, Turn, turn, small}
+use Rattle.measures.specs.Brier.{brierAt, brierSum, brierOf}
+use Rattle.measures.proofs.Sizes.{brier-at-le}
+use Rattle.measures.proofs.brier_in.Statement.{statement}
+use Rattle.measures.proofs.brier_in.Tie as tie
+
+record Summed (p : Place) (i : ℕ) (n : Obligors) (sum : ℕ) : Type 0 where
+  pub inside : i ≤ p .grades
+  pub all-obligors : n .0 ≡ obligorsIn (suffix p i)
+  pub all-squares : sum ≡ brierSum (suffix p i)
+  pub bounded : sum ≤ 1_000_000_000_000 * obligorsIn (suffix p i)
+
+abbrev Inv-loop : tie.InvT-loop
+Inv-loop obligors defaults announced grades i₀ n₀ sum₀ i n sum = Summed (withColumns obligors defaults announced grades) i n sum
+
+abbrev μ-loop : tie.MeasureT-loop
+μ-loop obligors defaults announced grades i₀ n₀ sum₀ i n sum = i
+
+loop-holds : tie.Need-loop-holds Inv-loop μ-loop
+unfolding obligorsIn brierSum
+loop-holds c =
+    let a = c .before .before .before .args in
+    let none = suffix-end (withColumns (now (a .obligors)) (now (a .defaults)) (now (a .announced)) (a .grades)) (a .grades) (omega arith) in
+    record { inside = omega arith; all-obligors = rw none; all-squares = rw none; bounded = omega arith }
+
+at : (c : tie.In-loop Inv-loop μ-loop) →
+    let a = c .before .before .before .before .before .args in
+    Turn (withColumns (now (a .obligors)) (now (a .defaults)) (now (a .announced)) (a .grades)) (c .before .loop .i)
+at c = turn _ _ (c .before .before .before .before .before .pre .1) (c .loop-test .taken) (c .before .loop .inv .inside)
+
+squares-requires : tie.Need-squares-requires Inv-loop μ-loop
+unfolding obligorsIn
+squares-requires c κs = let f = at (c .before .before .before .before) in omega arith
+
+squares-requires-2 : tie.Need-squares-requires-2 Inv-loop μ-loop
+unfolding obligorsIn
+squares-requires-2 c κs = let f = at (c .before .before .before .before .before) in omega (arith, c .before .before .survivors .ensures)
+
+-- What a turn adds to the squares.
+added : (c : tie.After-squares2 Inv-loop μ-loop) →
+    let l = c .before .before .before .before .before .before .before in
+    let a = l .before .before .before .before .args in
+    let p = withColumns (now (a .obligors)) (now (a .defaults)) (now (a .announced)) (a .grades) in
+    c .before .squares .result + c .squares2 .result ≡ brierAt (gradeAt p (l .loop .i - 1))
+added c =
+    let l = c .before .before .before .before .before .before .before in
+    let p = getD (now (l .before .before .before .before .args .announced)) (l .loop .i - 1) 0 in
+    let s = times-eq (p * p) (c .before .before .before .survivors .ensures) in
+    omega (arith, c .before .squares .ensures, c .squares2 .ensures)
+
+add-sum-2 : tie.Need-add-sum-2 Inv-loop μ-loop
+unfolding obligorsIn
+add-sum-2 c =
+    let f = at (c .before .before .before .before .before .before) in
+    let l = brier-at-le _ (f .counted) (f .rated) in
+    omega (arith, added c)
+
+plus-requires : tie.Need-plus-requires Inv-loop μ-loop
+unfolding obligorsIn
+plus-requires c κs = let f = at (c .before .before .before .before .before .before) in omega arith
+
+loop-again : tie.Need-loop-again Inv-loop μ-loop
+unfolding obligorsIn brierSum
+loop-again c =
+    let f = at (c .before .before .before .before .before .before .before) in
+    let l = brier-at-le _ (f .counted) (f .rated) in
+    let e = added (c .before) in
+    record {
+      inside = search needs;
+      all-obligors = rw (f .down) (omega (arith, c .plus .ensures));
+      all-squares = rw (f .down) (omega arith);
+      bounded = rw (f .down) (omega arith);
+    }
+
+score-is : (p : Place) (i : ℕ) (n : Obligors) (sum : ℕ) → i ≡ 0 → Summed p i n sum
+    → record { numerator = sum; denominator = n .0 * 1_000_000_000_000 } ≡ brierOf (tableOf p)
+unfolding brierOf
+score-is p i n sum e h = rw (← suffix-all p i e, ← h .all-obligors, ← h .all-squares)
+
+returns : tie.Need-returns Inv-loop μ-loop
+returns c = score-is _ _ _ _ (omega arith) (c .before .before .loop .inv)
+
+pub brier-in-spec : {M : Type 1} → statement M
+brier-in-spec =
+    tie.close
+    (tie.spec
+    Inv-loop
+    μ-loop
+    loop-holds
+    (λ c. search needs)
+    (λ c. let f = at c in omega arith)
+    (λ c. let f = at (c .before) in omega (arith, c .before .before .before .before .before .before .pre .0))
+    (λ c. let f = at (c .before) in omega arith)
+    (λ c. let f = at (c .before .before) in omega (arith, c .before .before .before .before .before .before .before .pre .0))
+    (λ c κs. let f = at (c .before .before) in omega arith)
+    (λ c. let f = at (c .before .before .before) in omega arith)
+    (λ c. let f = at (c .before .before .before .before) in omega (arith, c .before .before .before .before .before .before .before .before .before .pre .0))
+    (λ c. let f = at (c .before .before .before .before) in omega arith)
+    squares-requires
+    squares-requires-2
+    (λ c. omega (arith, add-sum-2 c))
+    add-sum-2
+    plus-requires
+    (λ c. search needs)
+    loop-again
+    (λ c. search needs)
+    (λ c. let t = small _ _ (c .before .before .before .before .before .before .pre .1) (c .before .before .loop .inv .inside) in omega arith)
+    returns)
