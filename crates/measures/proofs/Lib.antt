@@ -1,5 +1,4 @@
 pub mod Signed
-pub mod Magnitude
 pub mod Fractions
 pub mod Cutoffs
 pub mod Pairs

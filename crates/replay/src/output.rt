@@ -1,8 +1,7 @@
 // Text on its way to standard output. It is gathered in a buffer, of which the first `used` bytes are filled, and written when that is
 // full. Each function answers how many are used then.
 ghost use Prim.Native.Nat.{_≤_};
-ghost use mathlib.Core.Path.{_≡_};
-ghost use lib.IntN.{natAbs};
+use decimal::magnitude;
 use libc::STDOUT_FILENO;
 
 pub const BUFFER: usize = 65_536;
@@ -64,13 +63,6 @@ pub fn number(out: &mut [u8; BUFFER], used: usize, n: u32) -> usize
     ensures { λ r. ⌜ r ≤ 65_536 ⌝ }
 {
     wide_number(out, used, n as u64)
-}
-
-// How large a number is, whatever its sign. The complement of a negative n is -n - 1, which fits where -n may not.
-fn magnitude(n: i64) -> u64
-    ensures { λ r. ⌜ r ≡ natAbs n ⌝ }
-{
-    if n < 0 { (!n) as u64 + 1 } else { n as u64 }
 }
 
 // A number behind a space, and behind a hyphen where it is negative.

@@ -1,13 +1,13 @@
 // The printing program: the pooled grades and the Gini of rater 1 of the book on standard input.
 ghost use Prim.Native.Nat.{_≤_};
-ghost use mathlib.Core.Path.{_≡_};
-ghost use lib.IntN.{natAbs};
 ghost use Rattle.desk.specs.Desk.{SoundDesk};
 use book::Ack;
 use desk::Desk;
 use desk::MeasuresAnswer;
 use libc::STDIN_FILENO;
-use libc::STDOUT_FILENO;
+use print::number;
+use print::signed;
+use print::text;
 use table::GRADES;
 
 // The longest input, in bytes.
@@ -18,29 +18,6 @@ const TOO_LONG: u32 = 2;
 
 // What pool writes a grade: block defaults, block obligors, band.
 const NUMBERS: usize = 3;
-
-fn text(t: &[u8]) {
-    io::write_all(STDOUT_FILENO, t);
-}
-
-fn number(n: u64) {
-    io::print_decimal(STDOUT_FILENO, n);
-}
-
-// How large a number is, whatever its sign. The complement of a negative n is -n - 1, which fits where -n may not.
-fn magnitude(n: i64) -> u64
-    ensures { λ r. ⌜ r ≡ natAbs n ⌝ }
-{
-    if n < 0 { (!n) as u64 + 1 } else { n as u64 }
-}
-
-// With a leading hyphen where it is negative.
-fn signed(n: i64) {
-    if n < 0 {
-        text(b"-");
-    }
-    number(magnitude(n));
-}
 
 fn refused(n: u32) {
     text(b"refused ");

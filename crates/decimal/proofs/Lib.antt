@@ -1,0 +1,5 @@
+pub mod Sign
+pub mod Rounding
+pub mod Reading
+pub mod Nearest
+pub mod Claims

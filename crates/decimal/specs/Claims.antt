@@ -1,0 +1,19 @@
+-- What is proved of rounding, beside the contracts. Each claim is proved in proofs/Claims.antt under its name.
+use Prim.Native.Nat.{ℕ, _+_, _-_, _*_, _^_, _≤_, _<_}
+use mathlib.Core.Path.{_≡_}
+use Rattle.decimal.specs.Rounding.{rounded}
+
+-- how far apart m / 10^k and n / d are, times 10^k d
+abbrev pub distance : ℕ → ℕ → ℕ → ℕ → ℕ
+distance n d k m = (m * d - n * 10 ^ k) + (n * 10 ^ k - m * d)
+
+-- The rounded decimal is off by half a unit at most, 1 / (2 10^k).
+abbrev pub RoundingIsOffByHalfAUnit : Type 0
+RoundingIsOffByHalfAUnit = (n d k : ℕ) → 0 < d → 2 * distance n d k (rounded n d k) ≤ d
+
+-- No other decimal with k places is nearer, and one that is equally near is smaller.
+abbrev pub RoundedIsNearest : Type 0
+RoundedIsNearest =
+    (n d k m : ℕ) → 0 < d
+    → (distance n d k (rounded n d k) ≤ distance n d k m)
+    × (distance n d k m ≡ distance n d k (rounded n d k) → m ≤ rounded n d k)

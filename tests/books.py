@@ -1,0 +1,37 @@
+"""Books for the tests: their bytes from plain lines, and their tables from bytes, as document 01 lays them out."""
+import struct
+
+KINDS = {'obligors': 0, 'survivors': 1}
+
+
+def described(path):
+    """The books that a file of plain lines describes (examples/books.txt says how), by name: a table is its kind and its rows."""
+    books = {}
+    for line in open(path):
+        words = line.split('#')[0].split()
+        if not words:
+            continue
+        if words[0] == 'book':
+            tables = books[words[1]] = []
+        elif words[0] == 'rater':
+            tables.append((KINDS[words[1]], []))
+        else:
+            tables[-1][1].append([int(word) for word in words])
+    return books
+
+
+def encoded(tables):
+    """The bytes of a book."""
+    offsets, body, start = b'', b'', 4 + 2 * len(tables)
+    for kind, rows in tables:
+        offsets += struct.pack('<H', start + len(body))
+        body += struct.pack('<BBH', len(rows), kind, 0) + b''.join(struct.pack('<III', *row) for row in rows)
+    return struct.pack('<HH', len(tables), start + len(body)) + offsets + body
+
+
+def table(book, rater):
+    """A rater's grades in a sound book, best first: obligors, defaults, announced rate."""
+    at, = struct.unpack_from('<H', book, 2 + 2 * rater)
+    grades, kind = struct.unpack_from('<BB', book, at)
+    rows = [struct.unpack_from('<III', book, at + 4 + 12 * i) for i in range(grades)]
+    return [(first + defaults if kind else first, defaults, announced) for first, defaults, announced in rows]
