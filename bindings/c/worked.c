@@ -1,0 +1,230 @@
+/* The worked tables a to k of document 01 through the C interface. Prints each fact that does not hold. */
+#include "desk.h"
+
+#include <stdbool.h>
+#include <stdio.h>
+#include <string.h>
+
+typedef struct {
+    uint32_t obligors, defaults;
+} Grade;
+
+/* A list of grades and its length, as two arguments. */
+#define TABLE(...) (const Grade[]){__VA_ARGS__}, sizeof((const Grade[]){__VA_ARGS__}) / sizeof(Grade)
+#define TABLE_E TABLE({30, 2}, {18, 4}, {15, 10}, {16, 14}, {21, 20})
+#define HOLDS(fact) holds(fact, #fact, __LINE__)
+
+static int failures = 0;
+
+static void holds(bool fact, const char *text, int line)
+{
+    if (!fact) {
+        fprintf(stderr, "worked.c:%d: %s\n", line, text);
+        failures++;
+    }
+}
+
+static uint8_t *put_number(uint8_t *at, uint32_t number, int bytes)
+{
+    for (int i = 0; i < bytes; i++) {
+        *at++ = (uint8_t)(number >> 8 * i);
+    }
+    return at;
+}
+
+/* A book of one rater, kind 0, announced rates 0. Returns its length. */
+static size_t put_book(uint8_t *book, const Grade *grades, size_t count)
+{
+    size_t length = 10 + 12 * count;
+    uint8_t *at = put_number(book, 1, 2);
+    at = put_number(at, (uint32_t)length, 2);
+    at = put_number(at, 6, 2);
+    at = put_number(at, (uint32_t)count, 4);
+    for (size_t i = 0; i < count; i++) {
+        at = put_number(at, grades[i].obligors, 4);
+        at = put_number(at, grades[i].defaults, 4);
+        at = put_number(at, 0, 4);
+    }
+    return length;
+}
+
+static uint32_t load(Desk *desk, uint32_t place, const Grade *grades, size_t count)
+{
+    uint8_t book[2 * DESK_BOOK_BYTES];
+    return desk_load(desk, place, book, put_book(book, grades, count), 1);
+}
+
+/* A desk with a table in place 1. */
+static Desk desk_of(const Grade *grades, size_t count)
+{
+    Desk desk;
+    HOLDS(desk_empty(&desk) == 0);
+    HOLDS(load(&desk, 1, grades, count) == 0);
+    return desk;
+}
+
+static uint32_t load_alone(const Grade *grades, size_t count)
+{
+    Desk desk;
+    desk_empty(&desk);
+    return load(&desk, 2, grades, count);
+}
+
+static bool is(DeskFraction fraction, int64_t numerator, int64_t denominator)
+{
+    return fraction.numerator == numerator && fraction.denominator == denominator;
+}
+
+/* Whether all grades of a table are pooled into one block. */
+static bool pools_as_one(Desk desk, uint32_t defaults, uint32_t obligors)
+{
+    uint32_t numbers[DESK_POOL_NUMBERS];
+    bool pooled = desk_pool(&desk, 1, numbers, DESK_POOL_NUMBERS) == 0;
+    for (size_t i = 0; i < desk.first.grades; i++) {
+        pooled = pooled && numbers[3 * i] == defaults && numbers[3 * i + 1] == obligors;
+    }
+    return pooled;
+}
+
+static uint64_t cost(const Desk *desk, uint32_t place, DeskPrice price)
+{
+    DeskCutoff cheapest = {0, UINT64_MAX};
+    HOLDS(desk_cheapest(desk, place, price.u, price.v, &cheapest) == 0);
+    return cheapest.cost;
+}
+
+static DeskVerdict verdict_of(const Desk *desk)
+{
+    DeskVerdict verdict = {99, {0, 0}, {0, 0}};
+    HOLDS(desk_compare(desk, &verdict) == 0);
+    return verdict;
+}
+
+static const uint8_t book_k[46] = {1, 0, 46, 0, 6, 0, 3, 0, 0, 0,
+                                   10, 0, 0, 0, 2, 0, 0, 0, 0xA0, 0x86, 1, 0,
+                                   10, 0, 0, 0, 1, 0, 0, 0, 0xF0, 0x49, 2, 0,
+                                   20, 0, 0, 0, 4, 0, 0, 0, 0x40, 0x0D, 3, 0};
+
+static void a_book_k(void)
+{
+    Desk desk;
+    desk_empty(&desk);
+    HOLDS(desk_load(&desk, 1, book_k, 45, 1) == DESK_REFUSED_LENGTH);
+    HOLDS(desk_load(&desk, 1, book_k, 46, 1) == 0);
+    HOLDS(desk.first.loaded == 1 && desk.second.loaded == 0);
+    uint32_t numbers[10] = {[9] = 7};
+    HOLDS(desk_pool(&desk, 1, numbers, 8) == DESK_REFUSED_BUFFER);
+    HOLDS(desk_pool(&desk, 1, numbers, 10) == 0);
+    const uint32_t pooled[10] = {3, 20, 11, 3, 20, 11, 4, 20, 11, 7};
+    HOLDS(memcmp(numbers, pooled, sizeof pooled) == 0);
+    DeskMeasures measures;
+    HOLDS(desk_measures(&desk, 1, &measures) == 0 && is(measures.gini, 10, 231));
+    DeskFraction brier;
+    HOLDS(desk_brier(&desk, 1, &brier) == 0 && is(brier, 5825000000000, 40000000000000));
+    DeskSpread spread;
+    HOLDS(desk_spread(&desk, 1, &spread) == 0);
+    HOLDS(spread.total > 5.77 && spread.total < 5.78 && spread.residual > 5.74 && spread.residual < 5.76);
+    uint8_t book[47] = {[46] = 7};
+    size_t written = 0;
+    HOLDS(desk_write(&desk, book, 47, &written) == 0);
+    HOLDS(written == 46 && memcmp(book, book_k, 46) == 0 && book[46] == 7);
+    HOLDS(desk_clear(&desk, 1) == 0 && desk_clear(&desk, 1) == DESK_REFUSED_EMPTY);
+}
+
+static void b_c_d_pooling(void)
+{
+    HOLDS(pools_as_one(desk_of(TABLE({10, 2}, {20, 4})), 6, 30));
+    HOLDS(pools_as_one(desk_of(TABLE({10, 3}, {10, 4}, {10, 1})), 8, 30));
+    HOLDS(pools_as_one(desk_of(TABLE({90, 18}, {10, 1})), 19, 100));
+}
+
+static void e_five_grades(void)
+{
+    Desk desk = desk_of(TABLE_E);
+    DeskMeasures measures;
+    HOLDS(desk_measures(&desk, 1, &measures) == 0);
+    HOLDS(measures.defaults == 50 && measures.survivors == 50);
+    HOLDS(is(measures.gini, 2050, 2500) && is(measures.roc, 4550, 5000) && is(measures.cap, 7050, 10000));
+    HOLDS(is(measures.pietra, 1800, 2500) && measures.cutoff == 3);
+    const uint32_t bands[5] = {10, 12, 13, 14, 14};
+    uint32_t numbers[15];
+    HOLDS(desk_pool(&desk, 1, numbers, 15) == 0);
+    for (size_t i = 0; i < 5; i++) {
+        HOLDS(numbers[3 * i + 2] == bands[i]);
+    }
+}
+
+static void f_reversed(void)
+{
+    Desk desk = desk_of(TABLE({2, 2}, {2, 0}));
+    DeskMeasures measures;
+    HOLDS(desk_measures(&desk, 1, &measures) == 0);
+    HOLDS(is(measures.gini, -4, 4) && is(measures.pietra, 0, 4) && measures.cutoff == 0);
+}
+
+static void g_first_and_second(void)
+{
+    Desk desk = desk_of(TABLE({2, 0}, {2, 1}, {2, 2}));
+    HOLDS(load(&desk, 2, TABLE({3, 1}, {3, 2})) == 0);
+    DeskVerdict verdict = verdict_of(&desk);
+    HOLDS(verdict.kind == DESK_FIRST);
+    HOLDS(cost(&desk, 1, verdict.second_dearer) < cost(&desk, 2, verdict.second_dearer));
+
+    desk = desk_of(TABLE({3, 1}, {3, 2}));
+    HOLDS(load(&desk, 2, TABLE({2, 0}, {2, 1}, {2, 2})) == 0);
+    verdict = verdict_of(&desk);
+    HOLDS(verdict.kind == DESK_SECOND);
+    HOLDS(cost(&desk, 1, verdict.first_dearer) > cost(&desk, 2, verdict.first_dearer));
+}
+
+static void h_crossing(void)
+{
+    Desk desk = desk_of(TABLE({5, 2}, {1, 1}));
+    HOLDS(load(&desk, 2, TABLE({2, 0}, {4, 3})) == 0);
+    DeskVerdict verdict = verdict_of(&desk);
+    HOLDS(verdict.kind == DESK_CROSSING);
+    HOLDS(cost(&desk, 1, verdict.first_dearer) > cost(&desk, 2, verdict.first_dearer));
+    HOLDS(cost(&desk, 1, verdict.second_dearer) < cost(&desk, 2, verdict.second_dearer));
+    const DeskPrice even = {1, 1}, strict = {1, 3};
+    HOLDS(cost(&desk, 1, even) == 2 && cost(&desk, 2, even) == 1);
+    HOLDS(cost(&desk, 1, strict) == 2 && cost(&desk, 2, strict) == 3);
+}
+
+static void i_equal(void)
+{
+    Desk desk = desk_of(TABLE_E);
+    HOLDS(load(&desk, 2, TABLE_E) == 0);
+    HOLDS(verdict_of(&desk).kind == DESK_EQUAL);
+}
+
+static void k_limits(void)
+{
+    HOLDS(load_alone(TABLE({DESK_MAX_OBLIGORS, 1})) == 0);
+    HOLDS(load_alone(TABLE({DESK_MAX_OBLIGORS + 1, 1})) == DESK_REFUSED_OBLIGORS);
+    HOLDS(load_alone(TABLE({1, 0})) == 0);
+    HOLDS(load_alone(TABLE({0, 0})) == DESK_REFUSED_NO_OBLIGORS);
+    Grade grades[DESK_GRADES + 1];
+    for (size_t i = 0; i <= DESK_GRADES; i++) {
+        grades[i] = (Grade){1, 0};
+    }
+    HOLDS(load_alone(grades, DESK_GRADES) == 0);
+    HOLDS(load_alone(grades, DESK_GRADES + 1) == DESK_REFUSED_GRADES);
+    Desk desk = desk_of(TABLE({1, 0}));
+    DeskCutoff cheapest;
+    HOLDS(desk_cheapest(&desk, 1, DESK_MAX_PRICE, DESK_MAX_PRICE, &cheapest) == 0);
+    HOLDS(desk_cheapest(&desk, 1, DESK_MAX_PRICE + 1, 0, &cheapest) == DESK_REFUSED_PRICE);
+    HOLDS(desk_cheapest(&desk, 1, 0, DESK_MAX_PRICE + 1, &cheapest) == DESK_REFUSED_PRICE);
+}
+
+int main(void)
+{
+    a_book_k();
+    b_c_d_pooling();
+    e_five_grades();
+    f_reversed();
+    g_first_and_second();
+    h_crossing();
+    i_equal();
+    k_limits();
+    return failures == 0 ? 0 : 1;
+}

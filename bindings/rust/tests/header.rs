@@ -1,0 +1,67 @@
+//! This crate and `include/desk.h` name the same refusals and limits.
+
+use desk::Refusal;
+use std::fs;
+
+fn header() -> String {
+    fs::read_to_string("../../include/desk.h").expect("the header is there")
+}
+
+/// `NoObligors` as the header has it, `DESK_REFUSED_NO_OBLIGORS`.
+fn constant(refusal: Refusal) -> String {
+    let mut name = "DESK_REFUSED".to_string();
+    for letter in format!("{refusal:?}").chars() {
+        if letter.is_uppercase() {
+            name.push('_');
+        }
+        name.push(letter.to_ascii_uppercase());
+    }
+    name
+}
+
+#[test]
+fn refusals_are_those_of_the_header() {
+    let expected: Vec<String> = Refusal::ALL
+        .iter()
+        .map(|&refusal| {
+            let (number, meaning) = (refusal.number(), refusal.to_string());
+            format!("X({}, {number}, \"{meaning}\")", constant(refusal))
+        })
+        .collect();
+    let header = header();
+    let found: Vec<&str> = header
+        .lines()
+        .filter(|line| line.contains("X(DESK_REFUSED_"))
+        .map(|line| line.trim_end_matches('\\').trim())
+        .collect();
+    assert_eq!(found, expected);
+}
+
+#[test]
+fn numbers_are_those_of_document_01() {
+    let numbers: Vec<u32> = Refusal::ALL
+        .iter()
+        .map(|refusal| refusal.number())
+        .collect();
+    assert_eq!(numbers, (1..=13).chain(21..=25).collect::<Vec<u32>>());
+    for number in 0..100 {
+        let refusal = Refusal::of_number(number);
+        assert_eq!(refusal.is_some(), numbers.contains(&number));
+        assert!(refusal.is_none_or(|refusal| refusal.number() == number));
+    }
+}
+
+#[test]
+fn limits_are_those_of_the_header() {
+    let limits = [
+        ("DESK_GRADES", desk::GRADES),
+        ("DESK_MAX_OBLIGORS", desk::MAX_OBLIGORS as usize),
+        ("DESK_MAX_PRICE", desk::MAX_PRICE as usize),
+        ("DESK_POOL_NUMBERS", desk::POOL_NUMBERS),
+        ("DESK_BOOK_BYTES", desk::BOOK_BYTES),
+    ];
+    for (name, limit) in limits {
+        let line = format!("#define {name} {limit} ");
+        assert!(header().contains(&line), "{line}");
+    }
+}

@@ -1,0 +1,226 @@
+//! Random scripts of calls through the C boundary, held against the plain version in `reference/`:
+//! its judgement of the answers, and here the desk and all that is lent, word for word.
+
+use desk::{sys, Cutoff, Desk, Fraction, Grade, Measures, Place, Price, Spread};
+use reference::answer::Answer;
+use reference::compare::{judge, plan};
+use reference::desk::{LENT_BYTE, LENT_NUMBER};
+use reference::generate::Script;
+use reference::script::Call;
+use reference::{cutoff, measures, spread};
+use std::hint::black_box;
+use std::time::{SystemTime, UNIX_EPOCH};
+
+const CALLS: usize = 20_000;
+
+/// What a call answers in memory that held something else before, and still does at a refusal. What
+/// stands beside it is kept.
+fn answered<T: Copy + PartialEq>(before: T, call: impl FnOnce(&mut T) -> u32) -> Result<T, u32> {
+    let mut memory = [before; 3];
+    let number = call(&mut memory[1]);
+    assert!(memory[0] == before && memory[2] == before);
+    match number {
+        0 => Ok(memory[1]),
+        _ => {
+            assert!(memory[1] == before, "refused {number}, and wrote an answer");
+            Err(number)
+        }
+    }
+}
+
+fn done(number: u32) -> Result<(), u32> {
+    match number {
+        0 => Ok(()),
+        _ => Err(number),
+    }
+}
+
+/// Lends this many items, each set to the same value, and sees those beside them kept. The plain
+/// version's answer holds what becomes of the lent ones.
+fn lend<T: Copy + PartialEq, R>(
+    value: T,
+    length: u32,
+    call: impl FnOnce(&mut [T]) -> R,
+) -> (R, Vec<T>) {
+    let length = length as usize;
+    let mut memory = vec![value; length + 2];
+    let result = call(&mut memory[1..=length]);
+    assert!(memory[0] == value && memory[length + 1] == value);
+    (result, memory[1..=length].to_vec())
+}
+
+fn pool(desk: &Desk, place: u32, length: u32) -> Answer {
+    let (number, numbers) = lend(LENT_NUMBER, length, |numbers| {
+        sys::pool(desk, place, numbers)
+    });
+    Answer::Pool(done(number), numbers)
+}
+
+fn cheapest(desk: &Desk, place: u32, u: u32, v: u32) -> Result<(u32, u64), u32> {
+    let before = Cutoff {
+        cutoff: 1 << 40,
+        cost: 1 << 50,
+    };
+    let cheapest = answered(before, |answer| sys::cheapest(desk, place, u, v, answer))?;
+    Ok((narrow(cheapest.cutoff), cheapest.cost))
+}
+
+fn compare(desk: &Desk) -> Result<cutoff::Verdict, u32> {
+    let before = sys::Verdict {
+        kind: 99,
+        first_dearer: Price { u: 98, v: 97 },
+        second_dearer: Price { u: 96, v: 95 },
+    };
+    let verdict = answered(before, |answer| sys::compare(desk, answer))?;
+    let carried = |price: Price| cutoff::Price {
+        missed_default: price.u.into(),
+        lost_survivor: price.v.into(),
+    };
+    let none = Price { u: 0, v: 0 };
+    let (first, second) = (verdict.first_dearer, verdict.second_dearer);
+    Ok(match verdict.kind {
+        0 if first == none && second == none => cutoff::Verdict::Equal,
+        1 if first == none => cutoff::Verdict::First(carried(second)),
+        2 if second == none => cutoff::Verdict::Second(carried(first)),
+        3 => cutoff::Verdict::Crossing(carried(first), carried(second)),
+        _ => panic!("no verdict: {verdict:?}"),
+    })
+}
+
+const FRACTION: Fraction = Fraction {
+    numerator: -94,
+    denominator: -93,
+};
+
+fn measures(desk: &Desk, place: u32) -> Result<measures::Measures, u32> {
+    let before = Measures {
+        defaults: -92,
+        survivors: -91,
+        gini: FRACTION,
+        roc: FRACTION,
+        cap: FRACTION,
+        pietra: FRACTION,
+        cutoff: -90,
+    };
+    let found = answered(before, |answer| sys::measures(desk, place, answer))?;
+    let parts = |fraction: Fraction| (fraction.numerator, fraction.denominator);
+    Ok(measures::Measures {
+        defaults: narrow(found.defaults).into(),
+        survivors: narrow(found.survivors).into(),
+        gini: parts(found.gini),
+        roc: parts(found.roc),
+        cap: parts(found.cap),
+        pietra: parts(found.pietra),
+        pietra_cutoff: narrow(found.cutoff),
+    })
+}
+
+fn brier(desk: &Desk, place: u32) -> Result<(u64, u64), u32> {
+    let brier = answered(FRACTION, |answer| sys::brier(desk, place, answer))?;
+    let part = |number: i64| number.try_into().expect("it is not negative");
+    Ok((part(brier.numerator), part(brier.denominator)))
+}
+
+fn spread(desk: &Desk, place: u32) -> Result<spread::Spread, u32> {
+    let before = Spread {
+        total: -1.5,
+        residual: -2.5,
+    };
+    let Spread { total, residual } = answered(before, |answer| sys::spread(desk, place, answer))?;
+    Ok(spread::Spread { total, residual })
+}
+
+fn write(desk: &Desk, length: u32) -> Answer {
+    let (written, book) = lend(LENT_BYTE, length, |book| {
+        answered(89, |answer| sys::write(desk, book, answer))
+    });
+    Answer::Write(written, book)
+}
+
+fn narrow(number: impl TryInto<u32>) -> u32 {
+    number.try_into().ok().expect("it has 32 bits")
+}
+
+fn answer(desk: &mut Desk, call: &Call) -> Answer {
+    match *call {
+        Call::Load {
+            place,
+            rater,
+            ref book,
+        } => Answer::Load(done(sys::load(desk, place, book, rater))),
+        Call::Clear { place } => Answer::Clear(done(sys::clear(desk, place))),
+        Call::Pool { place, length } => pool(desk, place, length),
+        Call::Cheapest { place, u, v } => Answer::Cheapest(cheapest(desk, place, u, v)),
+        Call::Compare => Answer::Compare(compare(desk)),
+        Call::Measures { place } => Answer::Measures(measures(desk, place)),
+        Call::Brier { place } => Answer::Brier(brier(desk, place)),
+        Call::Spread { place } => Answer::Spread(spread(desk, place)),
+        Call::Write { length } => write(desk, length),
+    }
+}
+
+/// Whether the desk may be another one after this answer.
+fn changes_desk(answer: &Answer) -> bool {
+    matches!(answer, Answer::Load(Ok(())) | Answer::Clear(Ok(())))
+}
+
+/// Whether both places hold what the plain version's do.
+fn holds_the_same(desk: &Desk, plain: &reference::desk::Desk) -> bool {
+    let grade = |grade: &reference::table::Grade| Grade {
+        obligors: narrow(grade.obligors),
+        defaults: narrow(grade.defaults),
+        announced: narrow(grade.announced),
+    };
+    [Place::First, Place::Second].into_iter().all(|place| {
+        let table = plain.table(place as u32).ok();
+        let grades = table.map_or(&[][..], |table| &table.grades);
+        desk.is_loaded(place) == table.is_some() && desk.grades(place).eq(grades.iter().map(grade))
+    })
+}
+
+/// The lines that the C boundary answers to a script.
+fn answers(script: &Script) -> String {
+    let mut desk = Desk::empty();
+    let mut plain = reference::desk::Desk::fresh();
+    let mut lines = String::new();
+    for call in &script.calls {
+        let before = desk.clone();
+        let answer = answer(&mut desk, call);
+        // Most calls borrow the desk, so the compiler need not look whether it changed.
+        black_box(&mut desk);
+        assert!(changes_desk(&answer) || desk == before, "{call}");
+        plain.call(call);
+        assert!(holds_the_same(&desk, &plain), "{call}\n{desk:?}");
+        lines += &answer.line();
+        lines.push('\n');
+    }
+    if !script.tail.is_empty() {
+        lines += "end\n";
+    }
+    lines
+}
+
+fn agrees(seed: u64) {
+    println!("{CALLS} calls, seed {seed} (DESK_SEED={seed} repeats it)");
+    for (seed, calls) in plan(seed, CALLS) {
+        let script = Script::generate(seed, calls);
+        if let Err(difference) = judge(&script, &answers(&script)) {
+            panic!("{difference:#?}");
+        }
+    }
+}
+
+#[test]
+fn a_fixed_seed_agrees() {
+    agrees(2);
+}
+
+/// The seed is that in `DESK_SEED`, or taken from the clock.
+#[test]
+fn a_fresh_seed_agrees() {
+    let clock = || SystemTime::now().duration_since(UNIX_EPOCH);
+    agrees(match std::env::var("DESK_SEED") {
+        Ok(seed) => seed.parse().expect("DESK_SEED is a number"),
+        Err(_) => clock().expect("after 1970").as_nanos() as u64,
+    });
+}

@@ -1,0 +1,232 @@
+//! Every refusal number of every call, through the C boundary. At a refusal the desk and all that
+//! was lent are as they were, to the last bit.
+
+mod common;
+
+use common::{book_of, desk_with, Rows};
+use desk::{sys, Cutoff, Desk, Fraction, Measures, Price, Spread};
+use reference::damage::WAYS;
+use reference::draft::Draft;
+use reference::population::any_table;
+use reference::random::Random;
+use std::hint::black_box;
+
+const MIXED: Rows = &[(10, 2), (10, 1), (20, 4)];
+const NO_DEFAULTS: Rows = &[(3, 0)];
+const NO_SURVIVORS: Rows = &[(3, 3)];
+const NO_PLACES: [u32; 4] = [0, 3, 257, u32::MAX];
+
+/// Sees a call refused with this number, and neither the desk nor what was lent changed.
+fn refused<T: Clone + PartialEq + std::fmt::Debug>(
+    desk: &Desk,
+    lent: T,
+    number: u32,
+    call: impl FnOnce(&mut Desk, &mut T) -> u32,
+) {
+    let mut desk_after = desk.clone();
+    let mut lent_after = lent.clone();
+    assert_eq!(call(&mut desk_after, &mut lent_after), number);
+    // Most calls borrow the desk, so the compiler need not look whether it changed.
+    black_box(&mut desk_after);
+    assert!(
+        desk_after == *desk,
+        "refused {number}, and {desk:?} changed"
+    );
+    assert_eq!(
+        lent_after, lent,
+        "refused {number}, and what was lent changed"
+    );
+}
+
+fn load_refused(desk: &Desk, place: u32, book: &[u8], rater: u32, number: u32) {
+    refused(desk, book.to_vec(), number, |desk, book| {
+        sys::load(desk, place, book, rater)
+    });
+}
+
+fn clear_refused(desk: &Desk, place: u32, number: u32) {
+    refused(desk, (), number, |desk, _| sys::clear(desk, place));
+}
+
+fn pool_refused(desk: &Desk, place: u32, length: usize, number: u32) {
+    refused(desk, vec![0xAAAA_AAAA; length], number, |desk, numbers| {
+        sys::pool(desk, place, numbers)
+    });
+}
+
+fn cheapest_refused(desk: &Desk, place: u32, price: (u32, u32), number: u32) {
+    let lent = Cutoff {
+        cutoff: u64::MAX,
+        cost: 7,
+    };
+    refused(desk, lent, number, |desk, answer| {
+        sys::cheapest(desk, place, price.0, price.1, answer)
+    });
+}
+
+fn compare_refused(first: Option<Rows>, second: Option<Rows>, number: u32) {
+    let lent = sys::Verdict {
+        kind: 9,
+        first_dearer: Price { u: 8, v: 7 },
+        second_dearer: Price { u: 6, v: 5 },
+    };
+    refused(&desk_with(first, second), lent, number, |desk, answer| {
+        sys::compare(desk, answer)
+    });
+}
+
+const FRACTION: Fraction = Fraction {
+    numerator: -3,
+    denominator: -4,
+};
+
+fn measures_refused(desk: &Desk, place: u32, number: u32) {
+    let lent = Measures {
+        defaults: -1,
+        survivors: -2,
+        gini: FRACTION,
+        roc: FRACTION,
+        cap: FRACTION,
+        pietra: FRACTION,
+        cutoff: -5,
+    };
+    refused(desk, lent, number, |desk, answer| {
+        sys::measures(desk, place, answer)
+    });
+}
+
+fn brier_refused(desk: &Desk, place: u32, number: u32) {
+    refused(desk, FRACTION, number, |desk, answer| {
+        sys::brier(desk, place, answer)
+    });
+}
+
+fn spread_refused(desk: &Desk, place: u32, number: u32) {
+    let lent = Spread {
+        total: -1.5,
+        residual: -2.5,
+    };
+    refused(desk, lent, number, |desk, answer| {
+        sys::spread(desk, place, answer)
+    });
+}
+
+fn write_refused(desk: &Desk, length: usize, number: u32) {
+    let lent = (vec![0xAA; length], 77);
+    refused(desk, lent, number, |desk, (book, written)| {
+        sys::write(desk, book, written)
+    });
+}
+
+#[test]
+fn no_such_place() {
+    for desk in [desk_with(None, None), desk_with(Some(MIXED), Some(MIXED))] {
+        for place in NO_PLACES {
+            load_refused(&desk, place, &book_of(MIXED), 1, 1);
+            load_refused(&desk, place, &[], 0, 1);
+            clear_refused(&desk, place, 1);
+            pool_refused(&desk, place, 120, 1);
+            pool_refused(&desk, place, 0, 1);
+            cheapest_refused(&desk, place, (1, u32::MAX), 1);
+            measures_refused(&desk, place, 1);
+            brier_refused(&desk, place, 1);
+            spread_refused(&desk, place, 1);
+        }
+    }
+}
+
+#[test]
+fn empty_place() {
+    let tables = [
+        (1, desk_with(None, Some(MIXED))),
+        (2, desk_with(Some(MIXED), None)),
+    ];
+    for (empty, desk) in tables {
+        clear_refused(&desk, empty, 22);
+        pool_refused(&desk, empty, 120, 22);
+        pool_refused(&desk, empty, 0, 22);
+        cheapest_refused(&desk, empty, (u32::MAX, 1), 22);
+        measures_refused(&desk, empty, 22);
+        brier_refused(&desk, empty, 22);
+        spread_refused(&desk, empty, 22);
+    }
+}
+
+#[test]
+fn loaded_place() {
+    let desk = desk_with(Some(MIXED), Some(NO_DEFAULTS));
+    for place in [1, 2] {
+        load_refused(&desk, place, &book_of(MIXED), 1, 21);
+        load_refused(&desk, place, &[], 0, 21);
+    }
+}
+
+#[test]
+fn damaged_books() {
+    let mut random = Random::of_seed(11);
+    let desks = [desk_with(None, Some(MIXED)), desk_with(Some(MIXED), None)];
+    for _ in 0..50 {
+        for (number, damage) in WAYS {
+            let table = any_table(&mut random);
+            let mut draft = Draft::around(&mut random, &table);
+            damage(&mut random, &mut draft);
+            for (place, desk) in (1..).zip(&desks) {
+                load_refused(desk, place, &draft.bytes, draft.rater, number);
+            }
+        }
+    }
+}
+
+#[test]
+fn price_too_high() {
+    let desk = desk_with(Some(MIXED), Some(NO_DEFAULTS));
+    for price in [(1_000_001, 0), (0, 1_000_001), (u32::MAX, u32::MAX)] {
+        cheapest_refused(&desk, 1, price, 12);
+        cheapest_refused(&desk, 2, price, 12);
+    }
+}
+
+#[test]
+fn short_buffers() {
+    let desk = desk_with(Some(NO_DEFAULTS), Some(MIXED));
+    for length in 0..9 {
+        pool_refused(&desk, 2, length, 13);
+    }
+    for length in 0..3 {
+        pool_refused(&desk, 1, length, 13);
+    }
+    // 4 + 2 * 2 for the head, 4 + 12 and 4 + 36 for the tables
+    for length in 0..64 {
+        write_refused(&desk, length, 13);
+    }
+    assert_eq!(desk.write_into(&mut [0; 64]), Ok(64));
+}
+
+#[test]
+fn nothing_to_write() {
+    for length in [0, 1, 976] {
+        write_refused(&Desk::empty(), length, 22);
+    }
+}
+
+#[test]
+fn measures_of_one_sort_of_obligor() {
+    measures_refused(&desk_with(Some(NO_DEFAULTS), None), 1, 23);
+    measures_refused(&desk_with(None, Some(NO_SURVIVORS)), 2, 24);
+}
+
+#[test]
+fn compare_refuses_in_order() {
+    let more_survivors: Rows = &[(10, 2), (10, 1), (21, 4)];
+    let fewer_defaults: Rows = &[(10, 2), (10, 1), (20, 3), (1, 0)];
+    compare_refused(None, None, 22);
+    compare_refused(Some(NO_DEFAULTS), None, 22);
+    compare_refused(None, Some(NO_SURVIVORS), 22);
+    compare_refused(Some(NO_DEFAULTS), Some(NO_SURVIVORS), 23);
+    compare_refused(Some(NO_SURVIVORS), Some(NO_DEFAULTS), 23);
+    compare_refused(Some(MIXED), Some(NO_DEFAULTS), 23);
+    compare_refused(Some(MIXED), Some(NO_SURVIVORS), 24);
+    compare_refused(Some(NO_SURVIVORS), Some(MIXED), 24);
+    compare_refused(Some(MIXED), Some(more_survivors), 25);
+    compare_refused(Some(fewer_defaults), Some(MIXED), 25);
+}
