@@ -1,0 +1,174 @@
+//! The yardstick: the library in plain, safe Rust, optimised by hand, with the algorithms, checks and answers of the proved one.
+//! A call reads the desk where it lies; nothing is copied that need not be.
+#![forbid(unsafe_code)]
+
+mod book;
+mod cutoff;
+mod measures;
+mod pooling;
+mod spread;
+
+pub use cutoff::{Cheapest, Verdict};
+pub use measures::{Fraction, Measures};
+pub use spread::Spread;
+
+/// The most grades of a table.
+const GRADES: usize = 40;
+/// The most obligors of a table; also the highest price and the whole in ppm.
+const MILLION: u32 = 1_000_000;
+
+/// Document 01's number for a refusal.
+pub type Refusal = u32;
+
+/// Room for one table. An empty place is all zeros.
+#[derive(Clone, Copy)]
+struct Place {
+    obligors: [u32; GRADES],
+    defaults: [u32; GRADES],
+    announced: [u32; GRADES],
+    grades: usize,
+    loaded: bool,
+}
+
+impl Place {
+    const EMPTY: Place = Place {
+        obligors: [0; GRADES],
+        defaults: [0; GRADES],
+        announced: [0; GRADES],
+        grades: 0,
+        loaded: false,
+    };
+
+    fn table(&self) -> Result<Table<'_>, Refusal> {
+        if !self.loaded {
+            return Err(22);
+        }
+        Ok(Table {
+            obligors: &self.obligors[..self.grades],
+            defaults: &self.defaults[..self.grades],
+            announced: &self.announced[..self.grades],
+        })
+    }
+}
+
+/// A table in a place, best grade first; the three columns are of one length.
+#[derive(Clone, Copy)]
+struct Table<'a> {
+    obligors: &'a [u32],
+    defaults: &'a [u32],
+    announced: &'a [u32],
+}
+
+impl Table<'_> {
+    fn grades(&self) -> usize {
+        self.obligors.len()
+    }
+
+    /// Obligors and defaults of each grade.
+    fn counts(&self) -> impl DoubleEndedIterator<Item = (u32, u32)> + ExactSizeIterator + '_ {
+        self.obligors.iter().copied().zip(self.defaults.iter().copied())
+    }
+
+    /// N and D.
+    fn totals(&self) -> (u32, u32) {
+        (self.obligors.iter().sum(), self.defaults.iter().sum())
+    }
+}
+
+#[derive(Clone, Copy)]
+pub struct Desk {
+    first: Place,
+    second: Place,
+}
+
+impl Desk {
+    pub fn empty() -> Desk {
+        Desk {
+            first: Place::EMPTY,
+            second: Place::EMPTY,
+        }
+    }
+
+    fn place(&self, place: u32) -> Result<&Place, Refusal> {
+        match place {
+            1 => Ok(&self.first),
+            2 => Ok(&self.second),
+            _ => Err(1),
+        }
+    }
+
+    fn place_mut(&mut self, place: u32) -> Result<&mut Place, Refusal> {
+        match place {
+            1 => Ok(&mut self.first),
+            2 => Ok(&mut self.second),
+            _ => Err(1),
+        }
+    }
+
+    pub fn load(&mut self, place: u32, book: &[u8], rater: u32) -> Result<(), Refusal> {
+        let place = self.place_mut(place)?;
+        if place.loaded {
+            return Err(21);
+        }
+        book::read(book, rater, place)
+    }
+
+    pub fn clear(&mut self, place: u32) -> Result<(), Refusal> {
+        let place = self.place_mut(place)?;
+        if !place.loaded {
+            return Err(22);
+        }
+        *place = Place::EMPTY;
+        Ok(())
+    }
+
+    pub fn pool(&self, place: u32, numbers: &mut [u32]) -> Result<(), Refusal> {
+        let table = self.place(place)?.table()?;
+        let numbers = numbers.get_mut(..3 * table.grades()).ok_or(13u32)?;
+        pooling::pool(&table, numbers.as_chunks_mut().0);
+        Ok(())
+    }
+
+    pub fn cheapest(&self, place: u32, u: u32, v: u32) -> Result<Cheapest, Refusal> {
+        let table = self.place(place)?.table()?;
+        if u > MILLION || v > MILLION {
+            return Err(12);
+        }
+        Ok(cutoff::cheapest(&table, u, v))
+    }
+
+    pub fn compare(&self) -> Result<Verdict, Refusal> {
+        let (first, second) = (self.first.table()?, self.second.table()?);
+        let (a, b) = (first.totals(), second.totals());
+        if a.1 == 0 || b.1 == 0 {
+            return Err(23);
+        }
+        if a.0 == a.1 || b.0 == b.1 {
+            return Err(24);
+        }
+        if a != b {
+            return Err(25);
+        }
+        Ok(cutoff::judge(&first, &second))
+    }
+
+    pub fn measures(&self, place: u32) -> Result<Measures, Refusal> {
+        measures::measures(&self.place(place)?.table()?)
+    }
+
+    pub fn brier(&self, place: u32) -> Result<Fraction, Refusal> {
+        Ok(measures::brier(&self.place(place)?.table()?))
+    }
+
+    pub fn spread(&self, place: u32) -> Result<Spread, Refusal> {
+        Ok(spread::spread(&self.place(place)?.table()?))
+    }
+
+    pub fn write(&self, book: &mut [u8]) -> Result<usize, Refusal> {
+        match (self.first.table(), self.second.table()) {
+            (Ok(first), Ok(second)) => book::write(&[first, second], book),
+            (Ok(table), _) | (_, Ok(table)) => book::write(&[table], book),
+            _ => Err(22),
+        }
+    }
+}

@@ -1,0 +1,105 @@
+//! The blocks of a table by one pass with a stack, and the numbers that pool writes.
+use super::{Table, GRADES};
+
+/// A run of neighbouring grades.
+#[derive(Clone, Copy)]
+pub struct Block {
+    pub grades: u32,
+    pub obligors: u32,
+    pub defaults: u32,
+}
+
+impl Block {
+    fn is_below(&self, next: &Block) -> bool {
+        u64::from(self.defaults) * u64::from(next.obligors) < u64::from(next.defaults) * u64::from(self.obligors)
+    }
+
+    fn joined(&self, next: &Block) -> Block {
+        Block {
+            grades: self.grades + next.grades,
+            obligors: self.obligors + next.obligors,
+            defaults: self.defaults + next.defaults,
+        }
+    }
+}
+
+/// A stack of blocks, the worst at the bottom, column by column: that costs fewer instructions than an array of blocks.
+pub struct Blocks {
+    grades: [u32; GRADES],
+    obligors: [u32; GRADES],
+    defaults: [u32; GRADES],
+    count: usize,
+}
+
+impl Blocks {
+    pub const NONE: Blocks = Blocks {
+        grades: [0; GRADES],
+        obligors: [0; GRADES],
+        defaults: [0; GRADES],
+        count: 0,
+    };
+
+    fn get(&self, at: usize) -> Block {
+        Block {
+            grades: self.grades[at],
+            obligors: self.obligors[at],
+            defaults: self.defaults[at],
+        }
+    }
+
+    fn set(&mut self, at: usize, block: &Block) {
+        self.grades[at] = block.grades;
+        self.obligors[at] = block.obligors;
+        self.defaults[at] = block.defaults;
+    }
+
+    /// From the worst grade to the best, each takes in the blocks after it for as long as its rate is not below theirs.
+    pub fn pool(&mut self, table: &Table) {
+        let mut count = 0;
+        for (obligors, defaults) in table.counts().rev() {
+            let mut block = Block {
+                grades: 1,
+                obligors,
+                defaults,
+            };
+            while count > 0 {
+                let next = self.get(count - 1);
+                if block.is_below(&next) {
+                    break;
+                }
+                block = block.joined(&next);
+                count -= 1;
+            }
+            self.set(count, &block);
+            count += 1;
+        }
+        self.count = count;
+    }
+
+    pub fn worst_first(&self) -> impl DoubleEndedIterator<Item = Block> + '_ {
+        let grades = self.grades[..self.count].iter();
+        let counts = self.obligors[..self.count].iter().zip(&self.defaults[..self.count]);
+        grades.zip(counts).map(|(&grades, (&obligors, &defaults))| Block {
+            grades,
+            obligors,
+            defaults,
+        })
+    }
+}
+
+/// The numbers of each grade. Rates rise from block to block, so a block's band is looked for from the last one's on.
+pub fn pool(table: &Table, numbers: &mut [[u32; 3]]) {
+    let mut blocks = Blocks::NONE;
+    blocks.pool(table);
+    let mut rows = numbers.iter_mut();
+    let mut band = 0;
+    for block in blocks.worst_first().rev() {
+        let rate = u64::from(block.defaults) * 10_000;
+        while band < 14 && rate > u64::from(block.obligors) << band {
+            band += 1;
+        }
+        for row in rows.by_ref().take(block.grades as usize) {
+            *row = [block.defaults, block.obligors, band];
+        }
+    }
+}

@@ -1,0 +1,143 @@
+//! The three versions behind one face. What is counted are the functions `desk_*`, `plain_*` and `reference_*`, which nothing inlines.
+use crate::answer::Answer;
+use crate::{plain, proved};
+use reference::desk::Desk as ReferenceDesk;
+
+/// A desk of one of the versions. The answers are of its own types, so that making them uniform costs nothing where it is measured.
+pub trait Version: Clone {
+    const NAME: &'static str;
+    fn empty() -> Self;
+    fn load(&mut self, place: u32, book: &[u8], rater: u32) -> impl Into<Answer>;
+    fn clear(&mut self, place: u32) -> impl Into<Answer>;
+    fn pool(&self, place: u32, numbers: &mut [u32]) -> impl Into<Answer>;
+    fn cheapest(&self, place: u32, u: u32, v: u32) -> impl Into<Answer>;
+    fn compare(&self) -> impl Into<Answer>;
+    fn measures(&self, place: u32) -> impl Into<Answer>;
+    fn brier(&self, place: u32) -> impl Into<Answer>;
+    fn spread(&self, place: u32) -> impl Into<Answer>;
+    fn write(&self, book: &mut [u8]) -> impl Into<Answer>;
+}
+
+/// Functions under a name that callgrind finds, one for each call on a desk.
+macro_rules! entry_points {
+    ($($name:ident: $desk:ty, $call:ident($($argument:ident: $type:ty),*) -> $answer:ty;)*) => {$(
+        #[no_mangle]
+        #[inline(never)]
+        fn $name(desk: $desk, $($argument: $type),*) -> $answer {
+            desk.$call($($argument),*)
+        }
+    )*};
+}
+
+entry_points! {
+    plain_load: &mut plain::Desk, load(place: u32, book: &[u8], rater: u32) -> Result<(), u32>;
+    plain_clear: &mut plain::Desk, clear(place: u32) -> Result<(), u32>;
+    plain_pool: &plain::Desk, pool(place: u32, numbers: &mut [u32]) -> Result<(), u32>;
+    plain_cheapest: &plain::Desk, cheapest(place: u32, u: u32, v: u32) -> Result<plain::Cheapest, u32>;
+    plain_compare: &plain::Desk, compare() -> Result<plain::Verdict, u32>;
+    plain_measures: &plain::Desk, measures(place: u32) -> Result<plain::Measures, u32>;
+    plain_brier: &plain::Desk, brier(place: u32) -> Result<plain::Fraction, u32>;
+    plain_spread: &plain::Desk, spread(place: u32) -> Result<plain::Spread, u32>;
+    plain_write: &plain::Desk, write(book: &mut [u8]) -> Result<usize, u32>;
+    reference_load: &mut ReferenceDesk, load(place: u32, rater: u32, book: &[u8]) -> Result<(), u32>;
+    reference_clear: &mut ReferenceDesk, clear(place: u32) -> Result<(), u32>;
+    reference_pool: &ReferenceDesk, pool(place: u32, numbers: &mut [u32]) -> Result<(), u32>;
+    reference_cheapest: &ReferenceDesk, cheapest(place: u32, u: u32, v: u32) -> Result<(u32, u64), u32>;
+    reference_compare: &ReferenceDesk, compare() -> Result<reference::cutoff::Verdict, u32>;
+    reference_measures: &ReferenceDesk, measures(place: u32) -> Result<reference::measures::Measures, u32>;
+    reference_brier: &ReferenceDesk, brier(place: u32) -> Result<(u64, u64), u32>;
+    reference_spread: &ReferenceDesk, spread(place: u32) -> Result<reference::spread::Spread, u32>;
+    reference_write: &ReferenceDesk, write(book: &mut [u8]) -> Result<usize, u32>;
+}
+
+/// The face of a version, from the function that makes an empty desk and those that make the calls on it.
+macro_rules! version {
+    ($name:literal, $desk:ty, $empty:path, $load:expr, $clear:path, $pool:path, $cheapest:path, $compare:path, $measures:path,
+     $brier:path, $spread:path, $write:path) => {
+        impl Version for $desk {
+            const NAME: &'static str = $name;
+            fn empty() -> Self {
+                $empty()
+            }
+            #[inline(always)]
+            fn load(&mut self, place: u32, book: &[u8], rater: u32) -> impl Into<Answer> {
+                $load(self, place, book, rater)
+            }
+            #[inline(always)]
+            fn clear(&mut self, place: u32) -> impl Into<Answer> {
+                $clear(self, place)
+            }
+            #[inline(always)]
+            fn pool(&self, place: u32, numbers: &mut [u32]) -> impl Into<Answer> {
+                $pool(self, place, numbers)
+            }
+            #[inline(always)]
+            fn cheapest(&self, place: u32, u: u32, v: u32) -> impl Into<Answer> {
+                $cheapest(self, place, u, v)
+            }
+            #[inline(always)]
+            fn compare(&self) -> impl Into<Answer> {
+                $compare(self)
+            }
+            #[inline(always)]
+            fn measures(&self, place: u32) -> impl Into<Answer> {
+                $measures(self, place)
+            }
+            #[inline(always)]
+            fn brier(&self, place: u32) -> impl Into<Answer> {
+                $brier(self, place)
+            }
+            #[inline(always)]
+            fn spread(&self, place: u32) -> impl Into<Answer> {
+                $spread(self, place)
+            }
+            #[inline(always)]
+            fn write(&self, book: &mut [u8]) -> impl Into<Answer> {
+                $write(self, book)
+            }
+        }
+    };
+}
+
+version!(
+    "proved",
+    proved::Desk,
+    proved::Desk::empty,
+    proved::Desk::load,
+    proved::Desk::clear,
+    proved::Desk::pool,
+    proved::Desk::cheapest,
+    proved::Desk::compare,
+    proved::Desk::measures,
+    proved::Desk::brier,
+    proved::Desk::spread,
+    proved::Desk::write
+);
+version!(
+    "optimised",
+    plain::Desk,
+    plain::Desk::empty,
+    plain_load,
+    plain_clear,
+    plain_pool,
+    plain_cheapest,
+    plain_compare,
+    plain_measures,
+    plain_brier,
+    plain_spread,
+    plain_write
+);
+version!(
+    "reference",
+    ReferenceDesk,
+    ReferenceDesk::fresh,
+    |desk, place, book, rater| reference_load(desk, place, rater, book),
+    reference_clear,
+    reference_pool,
+    reference_cheapest,
+    reference_compare,
+    reference_measures,
+    reference_brier,
+    reference_spread,
+    reference_write
+);
