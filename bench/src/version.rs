@@ -103,15 +103,15 @@ version!(
     "proved",
     proved::Desk,
     proved::Desk::empty,
-    proved::Desk::load,
-    proved::Desk::clear,
-    proved::Desk::pool,
-    proved::Desk::cheapest,
-    proved::Desk::compare,
-    proved::Desk::measures,
-    proved::Desk::brier,
-    proved::Desk::spread,
-    proved::Desk::write
+    proved::load,
+    proved::clear,
+    proved::pool,
+    proved::cheapest,
+    proved::compare,
+    proved::measures,
+    proved::brier,
+    proved::spread,
+    proved::write
 );
 version!(
     "optimised",

@@ -1,9 +1,7 @@
 // The desk for callers in C and other languages: every entry point over the image of a desk in the caller's memory.
 // A function returns 0 or the refusal number; its answer goes to a lent buffer, which a refusal leaves as it was.
 ghost use mathlib.Core.Path.{_≡_};
-ghost use mathlib.Core.List.{List, [], _∷_};
 ghost use lib.ListN.{length};
-ghost use Rattle.table.specs.Place.{tableOf};
 ghost use Rattle.book.specs.Encode.{bookSize};
 ghost use Rattle.book.specs.Writing.{writeFault, bufferAfter};
 ghost use Rattle.cutoff.specs.Cutoff.{cheapestOf};

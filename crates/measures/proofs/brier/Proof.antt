@@ -1,9 +1,8 @@
 -- `brier` meets its contract: it is the score of its columns.
-use Prim.Native.Nat.{_≤_}
 use mathlib.Core.Path.{_≡_}
 use native.Mathlib.Omega.{arith}
 use lib.ListN.{length, length-map}
-use Rattle.table.proofs.Suffix.{columns-table, length-grades}
+use Rattle.table.proofs.Suffix.{columns-table, length-grades, lends}
 use Rattle.measures.proofs.brier.Statement.{statement}
 use Rattle.measures.proofs.brier.Tie as tie
 
@@ -11,11 +10,11 @@ brier-in-requires : tie.Need-brier-in-requires
 brier-in-requires c κs =
     let a = c .before .before .before .before .before .before .before in
     let p = a .args .t1 in
-    let few : p .grades ≤ 40 = omega (arith, length-grades p 0 (p .grades), a .pre .few) in
-    let n : length (p .obligors) ≡ 40 = simp length-map at (a .good .0 .1 .1 .0 .1 .0 .1) in
-    let d : length (p .defaults) ≡ 40 = simp length-map at (a .good .0 .1 .1 .1 .0 .1 .0 .1) in
+    let l = lends p (a .pre) (simp length-map at (a .good .0 .1 .1 .0 .1 .0 .1)) (simp length-map at (a .good .0 .1 .1 .1 .0 .1 .0 .1)) in
     let r : length (p .announced) ≡ 40 = simp length-map at (a .good .0 .1 .1 .1 .1 .0 .1 .0 .1) in
-    ((omega arith, omega arith, omega arith), rw (columns-table p) (a .pre))
+    let few = a .pre .few in
+    let g = length-grades p 0 (p .grades) in
+    ((l .0 .0, l .0 .1, omega arith), l .1)
 
 returns : tie.Need-returns
 returns c = rw (columns-table (c .before .before .before .before .before .before .before .before .args .t1)) at (c .brier-in .ensures)

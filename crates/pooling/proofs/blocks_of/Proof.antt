@@ -1,8 +1,7 @@
 -- `blocks_of` meets its contract: they are the blocks of its columns.
-use mathlib.Core.Path.{_≡_, _∙_, ap}
-use native.Mathlib.Omega.{arith}
-use lib.ListN.{length, length-map}
-use Rattle.table.proofs.Suffix.{columns-table, length-grades}
+use mathlib.Core.Path.{_∙_, ap}
+use lib.ListN.{length-map}
+use Rattle.table.proofs.Suffix.{columns-table, lends}
 use Rattle.pooling.specs.Pool.{pool}
 use Rattle.pooling.proofs.blocks_of.Statement.{statement}
 use Rattle.pooling.proofs.blocks_of.Tie as tie
@@ -10,10 +9,7 @@ use Rattle.pooling.proofs.blocks_of.Tie as tie
 blocks-in-requires : tie.Need-blocks-in-requires
 blocks-in-requires c κs =
     let a = c .before .before .before .before .before .before .before in
-    let p = a .args .t1 in
-    let n : length (p .obligors) ≡ 40 = simp length-map at (a .good .0 .1 .1 .0 .1 .0 .1) in
-    let d : length (p .defaults) ≡ 40 = simp length-map at (a .good .0 .1 .1 .1 .0 .1 .0 .1) in
-    ((omega (arith, length-grades p 0 (p .grades), a .pre .few), omega (arith, length-grades p 0 (p .grades), a .pre .few)), rw (columns-table p) (a .pre))
+    lends (a .args .t1) (a .pre) (simp length-map at (a .good .0 .1 .1 .0 .1 .0 .1)) (simp length-map at (a .good .0 .1 .1 .1 .0 .1 .0 .1))
 
 returns : tie.Need-returns
 returns c = (c .blocks-in .ensures .0 ∙ ap pool (columns-table _), c .blocks-in .ensures .1)

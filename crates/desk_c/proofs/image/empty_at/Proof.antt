@@ -1,12 +1,13 @@
 -- `empty_at` meets its contract.
-use Prim.Native.Nat.{ℕ, zero, suc, _+_, _-_, _≤_}
-use mathlib.Core.Path.{_≡_, refl}
+use Prim.Native.Nat.{ℕ, suc, _+_, _-_, _≤_}
+use mathlib.Core.Path.{_≡_}
 use native.Mathlib.Omega.{arith}
 use borrow.Author.Needs.{needs}
 use denote.Ref.{now}
-use lib.ListN.{length, getD, replicate}
+use lib.ListN.{length, getD}
 use lib.Seq.{paste, paste-zero, paste-suc}
 use Rattle.table.specs.Place.{fresh}
+use Rattle.table.proofs.Placed.{zeros-at}
 use Rattle.desk_c.specs.Image.{placeImage}
 use Rattle.desk_c.proofs.image.empty_at.Statement.{statement}
 use Rattle.desk_c.proofs.image.empty_at.Tie as tie
@@ -16,11 +17,6 @@ Inv-loop desk₀ at i₀ desk i = (desk ≡ paste desk₀ at (placeImage fresh) 
 
 abbrev μ-loop : tie.MeasureT-loop
 μ-loop desk₀ at i₀ desk i = 122 - i
-
-zeros-at : (n i : ℕ) → _≡_ {A = ℕ} (getD (replicate n 0) i 0) 0
-zeros-at zero i = refl
-zeros-at (suc n) zero = refl
-zeros-at (suc n) (suc i) = zeros-at n i
 
 -- all numbers of an empty place are 0
 empty-zero : (i : ℕ) → getD (placeImage fresh) i 0 ≡ 0
