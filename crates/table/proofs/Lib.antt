@@ -4,3 +4,4 @@ pub mod Every
 pub mod Sums
 pub mod Suffix
 pub mod Placed
+pub mod Words

@@ -1,9 +1,9 @@
 -- The table in a place. A place (document 01's term) is room for one table on the desk.
 use Prim.Native.Nat.{ℕ, zero, suc, _-_}
-use mathlib.Core.Bool.{Bool, true, false}
+use mathlib.Core.Bool.{true, false}
 use mathlib.Core.List.{List, [], _∷_, _++_, map}
 use lib.ListN.{length, getD, replicate}
-use Rattle.table.specs.Table.{Table, Grade}
+use Rattle.table.specs.Table.{Table, Grade, Sound}
 use Rattle.table.specs.declared.Place.{Place}
 
 -- a place of a fresh desk
@@ -29,15 +29,6 @@ gradesFrom p i (suc k) = gradeAt p i ∷ gradesFrom p (suc i) k
 abbrev pub tableOf : Place → Table
 tableOf p = gradesFrom p 0 (p .grades)
 
--- the place with these columns, of which the first `grades` numbers count
-abbrev pub lentPlace : List ℕ → List ℕ → List ℕ → ℕ → Bool → Place
-lentPlace obligors defaults announced grades loaded =
-    record { obligors = obligors; defaults = defaults; announced = announced; grades = grades; loaded = loaded }
-
--- the loaded one
-abbrev pub withColumns : List ℕ → List ℕ → List ℕ → ℕ → Place
-withColumns obligors defaults announced grades = lentPlace obligors defaults announced grades true
-
 -- a grade that nothing was stored in
 abbrev pub blank : Grade
 blank = record { obligors = 0; defaults = 0; announced = 0 }
@@ -56,3 +47,8 @@ placeOf t =
       grades = length t;
       loaded = true;
     }
+
+-- What calls leave in a place: nothing, or a table.
+pub data SoundPlace : Place → Type 0 where
+  empty : SoundPlace fresh
+  holds : (t : Table) → Sound t → SoundPlace (placeOf t)

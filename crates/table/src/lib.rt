@@ -2,15 +2,18 @@
 ghost use Prim.Native.Nat.{_+_, _-_, _≤_};
 ghost use mathlib.Core.Path.{_≡_};
 ghost use lib.ListN.{length};
-ghost use Rattle.table.specs.Table.{Sound};
-ghost use Rattle.table.specs.Place.{fresh, tableOf, withColumns};
-ghost use Rattle.table.specs.Counts.{largest, held, totalsOf};
+ghost use Rattle.table.specs.Place.{fresh};
+ghost use Rattle.table.specs.Words.{placeSize, placeIn, tableIn, HoldsTable};
+ghost use Rattle.table.specs.Counts.{largest, capped, totalsOf};
 
 // The most grades of a table.
 pub const GRADES: usize = 40;
 
 // The most obligors of a table.
 pub const OBLIGORS: u32 = 1_000_000;
+
+// The highest announced rate: all of a million.
+pub const PPM: u32 = 1_000_000;
 
 // A number of obligors. No sum joins it with survivors: the types differ, and `with_defaults` is the one way across.
 pub struct Obligors(pub u32);
@@ -45,7 +48,7 @@ impl Survivors {
 
     // The conversion: survivors and defaults together are the obligors. Where a u32 cannot hold them, the largest one.
     pub fn with_defaults(self, defaults: u32) -> Obligors
-        ensures { λ r. ⌜ r .0 ≡ held (self .0 + defaults) ⌝ }
+        ensures { λ r. ⌜ r .0 ≡ capped (self .0 + defaults) ⌝ }
     {
         if self.0 <= 4_294_967_295 - defaults {
             Obligors(self.0 + defaults)
@@ -85,34 +88,55 @@ impl Place {
             loaded: false,
         }
     }
-
-    // The totals of the table in a place.
-    pub fn totals(self) -> Totals
-        requires { ⌜ Sound (tableOf self) ⌝ }
-        ensures { λ r. ⌜ r ≡ totalsOf (tableOf self) ⌝ }
-    {
-        totals_in(&self.obligors, &self.defaults, &self.announced, self.grades)
-    }
 }
 
-// The totals of the table with these columns.
-pub fn totals_in<'a>(
-    obligors: &'a [u32],
-    defaults: &'a [u32],
-    announced: &'a [u32],
-    grades: usize,
-) -> Totals
-    requires long { ⌜ (grades ≤ length (now obligors)) × (grades ≤ length (now defaults)) ⌝ }
-    requires sound { ⌜ Sound (tableOf (withColumns (now obligors) (now defaults) (now announced) grades)) ⌝ }
-    ensures { λ r. ⌜ r ≡ totalsOf (tableOf (withColumns (now (obligors .entry)) (now (defaults .entry)) (now (announced .entry)) grades)) ⌝ }
+// A place as words, the numbers that a caller lends for it: obligors from 0 on, then the columns from DEFAULTS and from ANNOUNCED on, the grade
+// count, and at LOADED 1 where it is loaded.
+pub const DEFAULTS: usize = 40;
+
+pub const ANNOUNCED: usize = 80;
+
+pub const GRADE_COUNT: usize = 120;
+
+pub const LOADED: usize = 121;
+
+pub const PLACE: usize = 122;
+
+// A count as an index.
+pub fn wide(n: u32) -> usize
+    ensures { λ r. ⌜ r ≡ n ⌝ }
 {
-    let mut i = grades;
+    n as usize
+}
+
+// The grade count of a lent place.
+pub fn grades_of(place: &[u32]) -> usize
+    requires { ⌜ length (now place) ≡ placeSize ⌝ }
+    ensures { λ r. ⌜ r ≡ placeIn (now (place .entry)) .grades ⌝ }
+{
+    wide(place[GRADE_COUNT])
+}
+
+// Whether a lent place is loaded.
+pub fn is_loaded(place: &[u32]) -> bool
+    requires { ⌜ length (now place) ≡ placeSize ⌝ }
+    ensures { λ r. ⌜ r ≡ placeIn (now (place .entry)) .loaded ⌝ }
+{
+    place[LOADED] == 1
+}
+
+// The totals of the table in a lent place.
+pub fn totals_of(place: &[u32]) -> Totals
+    requires { ⌜ HoldsTable (now place) ⌝ }
+    ensures { λ r. ⌜ r ≡ totalsOf (tableIn (now (place .entry))) ⌝ }
+{
+    let mut i = grades_of(place);
     let mut sum: u32 = 0;
     let mut all = Obligors(0);
     while 0 < i {
         i -= 1;
-        sum += defaults[i];
-        all = all.plus(Obligors(obligors[i]));
+        sum += place[DEFAULTS + i];
+        all = all.plus(Obligors(place[i]));
     }
     Totals {
         defaults: sum,
