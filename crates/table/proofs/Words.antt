@@ -6,12 +6,13 @@ use mathlib.Core.List.{List, [], _∷_, _++_, append-assoc}
 use native.Mathlib.Nat.{zero-add}
 use native.Mathlib.Omega.{arith}
 use lib.Dec.{eqb}
-use lib.ListN.{length, getD, take, drop, length-append}
-use lib.Seq.{take-at, drop-at, drop-drop, getD-take, getD-drop}
+use lib.ListN.{length, getD, set, take, drop, replicate, length-append}
+use lib.Seq.{paste, set-at, take-all, take-at, drop-at, drop-drop, getD-take, getD-drop}
 use Rattle.table.specs.declared.Place.{Place}
 use Rattle.table.specs.Table.{Occupied, Counted, Rated, Sound}
 use Rattle.table.specs.Place.{fresh, gradeAt, tableOf, placeOf, SoundPlace, empty, holds}
 use Rattle.table.specs.Words.{placeSize, wordsOf, columnIn, placeIn, tableIn, HoldsTable, IsPlace}
+use Rattle.table.proofs.Pastes.{paste-behind}
 use Rattle.table.proofs.Placed.{length-column, placed-grades, placed-loaded, sound-placed}
 use Rattle.table.proofs.Suffix.{suffix, suffix-down, every-suffix, length-grades, Small, small}
 
@@ -89,6 +90,33 @@ module _ (p : Place) (long : Long p) where
       let a : take 40 (drop 80 words) ≡ p .announced = ap (take 40) three ∙ take-at (p .announced) _ 40 (long .announced) in
       let l : eqb (getD words 121 0) 1 ≡ p .loaded = ap (λ (n : ℕ). eqb n 1) (number 1) ∙ flag-back (p .loaded) in
       rw (o, d, a, number 0, l) refl
+
+-- The words, stored column by column over zeros.
+pub words-put : (p : Place) → Long p → {u v w : List ℕ}
+    → u ≡ paste (replicate 122 0) 0 (p .obligors) 40
+    → v ≡ paste u 40 (p .defaults) 40
+    → w ≡ paste v 80 (p .announced) 40
+    → set (set w 120 (p .grades)) 121 (cond (p .loaded) 1 0) ≡ wordsOf p
+words-put p l e f g =
+    let zeros : List ℕ = replicate 122 0 in
+    let two = p .obligors ++ p .defaults in
+    let all = p .obligors ++ p .defaults ++ p .announced in
+    let n : length two ≡ 80 = rw (length-append, l .obligors, l .defaults) refl in
+    let m : length all ≡ 120 = rw (length-append, length-append, l .obligors, l .defaults, l .announced) refl in
+    let k : length (all ++ (p .grades ∷ [])) ≡ 121 = rw (length-append, m) refl in
+    let stored : paste zeros 0 all 120 ≡ all ++ (0 ∷ 0 ∷ []) = rw (take-all 120 all (omega arith)) refl in
+    rw (
+      g,
+      f,
+      e,
+      paste-behind zeros (p .obligors) (p .defaults) 0 40 40 40 refl (l .obligors) (omega arith) (omega arith),
+      paste-behind zeros two (p .announced) 0 80 40 80 refl n (omega arith) (omega arith),
+      stored,
+      set-at all 0 (0 ∷ []) (p .grades) 120 m,
+    )
+    (ap (λ (x : List ℕ). set x 121 (cond (p .loaded) 1 0)) (sym (append-assoc all (p .grades ∷ []) (0 ∷ [])))
+    ∙ set-at (all ++ (p .grades ∷ [])) 0 [] (cond (p .loaded) 1 0) 121 k
+    ∙ append-assoc all (p .grades ∷ []) (cond (p .loaded) 1 0 ∷ []))
 
 pub is-place : {p : Place} → SoundPlace p → IsPlace (wordsOf p)
 is-place {p} s = let e = place-back p (long-place s) in record { sound = rw e s; exact = ap wordsOf (sym e) }

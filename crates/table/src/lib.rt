@@ -1,9 +1,11 @@
 // A grade table in a place of the desk, its counts and its totals.
 ghost use Prim.Native.Nat.{_+_, _-_, _≤_};
 ghost use mathlib.Core.Path.{_≡_};
+ghost use mathlib.Core.Bool.{cond};
 ghost use lib.ListN.{length};
-ghost use Rattle.table.specs.Place.{fresh};
-ghost use Rattle.table.specs.Words.{placeSize, placeIn, tableIn, HoldsTable};
+ghost use lib.Seq.{paste};
+ghost use Rattle.table.specs.Place.{fresh, SoundPlace};
+ghost use Rattle.table.specs.Words.{placeSize, wordsOf, columnIn, placeIn, tableIn, HoldsTable};
 ghost use Rattle.table.specs.Counts.{largest, capped, totalsOf};
 
 // The most grades of a table.
@@ -123,6 +125,72 @@ pub fn is_loaded(place: &[u32]) -> bool
     ensures { λ r. ⌜ r ≡ placeIn (now (place .entry)) .loaded ⌝ }
 {
     place[LOADED] == 1
+}
+
+// The number that marks a loaded place.
+fn mark(loaded: bool) -> u32
+    ensures { λ r. ⌜ r ≡ cond loaded 1 0 ⌝ }
+{
+    if loaded { 1 } else { 0 }
+}
+
+// Stores a column from `at` on.
+fn put_column(words: &mut [u32], at: usize, column: &[u32])
+    requires { ⌜ (at + 40 ≤ length (now words)) × (length (now column) ≡ 40) ⌝ }
+    ensures { λ _. ⌜ now (words .exit) ≡ paste (now (words .entry)) at (now (column .entry)) 40 ⌝ }
+{
+    let mut i: usize = 0;
+    while i < GRADES {
+        words[at + i] = column[i];
+        i += 1;
+    }
+}
+
+// The column from `at` on.
+fn column_at(words: &[u32], at: usize) -> [u32; GRADES]
+    requires { ⌜ at + 40 ≤ length (now words) ⌝ }
+    ensures { λ r. ⌜ r ≡ columnIn (now (words .entry)) at ⌝ }
+{
+    let mut column = [0u32; GRADES];
+    let mut i: usize = 0;
+    while i < GRADES {
+        column[i] = words[at + i];
+        i += 1;
+    }
+    column
+}
+
+impl Place {
+    // The words of a place that calls left.
+    pub fn words(self) -> [u32; PLACE]
+        requires { ⌜ SoundPlace self ⌝ }
+        ensures { λ r. ⌜ r ≡ wordsOf self ⌝ }
+    {
+        let mut words = [0u32; PLACE];
+        put_column(&mut words, 0, &self.obligors);
+        put_column(&mut words, DEFAULTS, &self.defaults);
+        put_column(&mut words, ANNOUNCED, &self.announced);
+        words[GRADE_COUNT] = self.grades as u32;
+        words[LOADED] = mark(self.loaded);
+        words
+    }
+
+    // The place that words stand for.
+    pub fn of_words(words: &[u32]) -> Place
+        requires { ⌜ length (now words) ≡ placeSize ⌝ }
+        ensures { λ r. ⌜ r ≡ placeIn (now (words .entry)) ⌝ }
+    {
+        let obligors = column_at(words, 0);
+        let defaults = column_at(words, DEFAULTS);
+        let announced = column_at(words, ANNOUNCED);
+        Place {
+            obligors,
+            defaults,
+            announced,
+            grades: wide(words[GRADE_COUNT]),
+            loaded: words[LOADED] == 1,
+        }
+    }
 }
 
 // The totals of the table in a lent place.
