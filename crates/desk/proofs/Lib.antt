@@ -1,13 +1,2 @@
-pub mod Places
-pub mod Leaves
-pub mod Soundness
-pub mod Answered
-pub mod Compared
 pub mod Number
-pub mod History
-pub mod Faults
-pub mod Kept
-pub mod Accepted
-pub mod Verdicts
-pub mod Worked
-pub mod Demands
+pub mod Soundness

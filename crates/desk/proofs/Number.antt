@@ -1,10 +1,18 @@
--- The number of a place: it is 1, 2 or neither, and then refused with 1.
-use Prim.Native.Nat.{ℕ}
+-- The number of a place: it is 1, 2 or neither, and then refused with 1 before every other check.
+use Prim.Native.Nat.{ℕ, zero, suc}
 use mathlib.Core.Path.{_≡_, sym}
 use native.Mathlib.Omega.{arith}
 use native.Mathlib.Decide.{decLe}
+use Rattle.book.specs.Checks.{firstFault}
+use Rattle.book.proofs.Checks.{found, pass, over, stop}
 use Rattle.desk.specs.Calls.{placeFault}
-use Rattle.desk.proofs.Answered.{nowhere}
+
+pub nowhere : (i : ℕ) → (i ≡ 1 → ⊥) → (i ≡ 2 → ⊥) → 1 ≡ placeFault i
+nowhere zero h k = found (over (omega arith))
+nowhere (suc i) h k = found (pass (omega arith) (over (omega arith)))
+
+pub no-place : {i : ℕ} (rest : ℕ) → (i ≡ 1 → ⊥) → (i ≡ 2 → ⊥) → 1 ≡ firstFault (placeFault i) rest
+no-place {i} rest h k = stop rest (nowhere i h k) (λ z. omega arith)
 
 pub data Number : ℕ → Type 0 where
   one : Number 1

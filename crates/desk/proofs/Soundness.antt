@@ -1,19 +1,21 @@
--- Load and clear keep a desk sound: what a caller hands on from call to call.
+-- Calls keep a desk sound: what a caller hands on from call to call.
 use Prim.Native.Nat.{ℕ}
-use mathlib.Core.Path.{_≡_, refl}
+use mathlib.Core.Path.{_≡_}
 use mathlib.Core.List.{List}
 use lib.Dec.{eqb}
 use Rattle.table.specs.declared.Place.{Place}
 use Rattle.table.specs.Table.{Sound}
+use Rattle.table.specs.Place.{SoundPlace, empty, holds}
 use Rattle.table.proofs.Test.{by-test}
-use Rattle.book.specs.Rows.{tableIn}
-use Rattle.book.specs.Reading.{readFault, answer}
+use Rattle.book.specs.Rows.{tableOfRater}
+use Rattle.book.specs.Reading.{readFault}
 use Rattle.book.proofs.Checks.{held-first}
-use Rattle.book.proofs.Accept.{accepted}
+use Rattle.book.proofs.Claims.{ReadingIsSound}
+use Rattle.calls.specs.Calls.{Change, load, clear, changedTo, changeFault}
+use Rattle.calls.proofs.Leaves.{by-fault}
 use Rattle.desk.specs.declared.Desk.{Desk}
-use Rattle.desk.specs.Desk.{freshDesk, withPlace, SoundPlace, empty, holds, SoundDesk}
-use Rattle.desk.specs.Calls.{loadFault, heldFault, afterLoad, afterClear}
-use Rattle.desk.proofs.Leaves.{by-fault}
+use Rattle.desk.specs.Desk.{freshDesk, withPlace, SoundDesk}
+use Rattle.desk.specs.Calls.{change, numberOf, after}
 
 pub fresh-sound : SoundDesk freshDesk
 fresh-sound = record { first = empty; second = empty }
@@ -21,14 +23,14 @@ fresh-sound = record { first = empty; second = empty }
 with-sound : {d : Desk} {p : Place} (i : ℕ) → SoundDesk d → SoundPlace p → SoundDesk (withPlace d i p)
 with-sound i s t = by-test SoundDesk (eqb i 1) (λ _. record { first = t; second = s .second }) (λ _. record { first = s .first; second = t })
 
-pub read-sound : (b : List ℕ) (j : ℕ) → readFault b j ≡ 0 → Sound (tableIn b j)
-unfolding answer
-read-sound b j e = let a = accepted b j (rw e refl) in rw (← a .table) (a .sound)
+pub read-sound : (b : List ℕ) (j : ℕ) → readFault b j ≡ 0 → Sound (tableOfRater b j)
+read-sound b j e = let a = ReadingIsSound b j e in rw (← a .table) (a .sound)
 
-pub load-sound : (d : Desk) (i : ℕ) (b : List ℕ) (j : ℕ) → SoundDesk d → SoundDesk (afterLoad d i b j)
-unfolding loadFault
-load-sound d i b j s =
-    by-fault SoundDesk (loadFault d i b j) (λ e. with-sound i s (holds (tableIn b j) (read-sound b j (held-first _ _ (held-first _ _ e .1) .1)))) (λ _. s)
+changed-sound : (p : Place) (c : Change) → changeFault p c ≡ 0 → SoundPlace (changedTo c)
+unfolding changeFault
+changed-sound p (load b j) e = holds (tableOfRater b j) (read-sound b j (held-first _ _ e .1))
+changed-sound p clear e = empty
 
-pub clear-sound : (d : Desk) (i : ℕ) → SoundDesk d → SoundDesk (afterClear d i)
-clear-sound d i s = by-fault SoundDesk (heldFault d i) (λ _. with-sound i s empty) (λ _. s)
+pub change-sound : (d : Desk) (i : ℕ) (c : Change) → SoundDesk d → SoundDesk (after d (change i c))
+change-sound d i c s =
+    by-fault SoundDesk (numberOf d (change i c)) (λ e. with-sound i s (changed-sound _ c (held-first _ _ e .1))) (λ _. s)

@@ -1,108 +1,83 @@
--- The checks of each call, in document 01's order, and what each call answers and leaves.
-use Prim.Native.Nat.{ℕ, _*_}
-use mathlib.Core.Bool.{cond}
+-- The calls on a desk, by what they do, each with its input; the number that each is refused with, and what each leaves. The contracts of
+-- the desk's methods, those of the library for C and the demands all speak of these definitions.
+use Prim.Native.Nat.{ℕ}
 use mathlib.Core.List.{List, [], _∷_}
 use lib.ListN.{length}
-use Rattle.table.specs.Table.{Table, defaultsIn, survivorsIn}
-use Rattle.table.specs.Place.{fresh, tableOf, placeOf}
-use Rattle.table.specs.declared.Place.{Place}
-use Rattle.book.specs.Checks.{Check, at-most, equal, fault, first}
-use Rattle.book.specs.Rows.{tableIn}
-use Rattle.book.specs.Reading.{readFault}
-use Rattle.book.specs.Writing.{tablesOf}
-use Rattle.pooling.specs.Numbers.{pooledInto}
+use Rattle.table.specs.Table.{Table}
+use Rattle.book.specs.Checks.{at-most, fault, firstFault}
+use Rattle.book.specs.Encode.{bookSize}
+use Rattle.book.specs.Writing.{tablesOf, writeFault, bufferAfter}
 use Rattle.cutoff.specs.Verdict.{IsVerdict}
 use Rattle.cutoff.specs.declared.Verdict.{Verdict}
 use Rattle.spread.specs.Spread.{IsSpread}
 use Rattle.spread.specs.declared.Spread.{Spread}
+use Rattle.calls.specs.Answers.{Answer, leaves, Limited}
+use Rattle.calls.specs.Calls.{Question, spread, questionFault, Filling, fillSize, filledWith, fillFault, Change, changedTo, changeFault, compareFault}
 use Rattle.desk.specs.declared.Desk.{Desk}
-use Rattle.desk.specs.Desk.{placeAt, withPlace}
-use Rattle.desk.specs.Answers.{Answer, leaves, Limited}
+use Rattle.desk.specs.Desk.{placeAt, tableAt, withPlace}
 
--- The table in place i.
-abbrev pub tableAt : Desk → ℕ → Table
-tableAt d i = tableOf (placeAt d i)
+pub data Call : Type 0 where
+  -- asks place i, or both
+  ask : (i : ℕ) → Question → Call
+  compare : Call
+  -- fills a lent buffer from place i, or from both
+  fill : (i : ℕ) → Filling → (out : List ℕ) → Call
+  write : (out : List ℕ) → Call
+  -- changes place i
+  change : (i : ℕ) → Change → Call
 
 -- 1: place is not 1 or 2.
 abbrev pub placeFault : ℕ → ℕ
 placeFault i = fault (at-most 1 i 1 ∷ at-most i 2 1 ∷ [])
 
--- 21: place already loaded.
-abbrev pub loadedFault : Place → ℕ
-loadedFault p = cond (p .loaded) 21 0
-
--- 22: place empty.
-abbrev pub emptyFault : Place → ℕ
-emptyFault p = cond (p .loaded) 0 22
-
--- 1, 22: the first checks of every call on the table in a place
-unfoldable pub heldFault : Desk → ℕ → ℕ
-heldFault d i = first (placeFault i) (emptyFault (placeAt d i))
-
--- "Load 1, 21, 2, 3, 4; then table by table .."
-unfoldable pub loadFault : Desk → ℕ → List ℕ → ℕ → ℕ
-loadFault d i book rater = first (placeFault i) (first (loadedFault (placeAt d i)) (readFault book rater))
-
--- "The table in a place is that of the rater loaded there, as it stands in the book lent to that load."
-abbrev pub afterLoad : Desk → ℕ → List ℕ → ℕ → Desk
-afterLoad d i book rater = leaves (loadFault d i book rater) d (withPlace d i (placeOf (tableIn book rater)))
-
--- "Clear makes a loaded [place] as it is on a fresh desk."
-abbrev pub afterClear : Desk → ℕ → Desk
-afterClear d i = leaves (heldFault d i) d (withPlace d i fresh)
-
--- 13, for a lent buffer of n numbers: pool needs 3 a grade.
-abbrev pub bufferChecks : Table → ℕ → List Check
-bufferChecks t n = at-most (3 * length t) n 13 ∷ []
-
--- "Pool 1, 22, 13."
-unfoldable pub poolFault : Desk → ℕ → ℕ → ℕ
-poolFault d i n = first (heldFault d i) (fault (bufferChecks (tableAt d i) n))
-
-abbrev pub afterPool : Desk → ℕ → List ℕ → List ℕ
-afterPool d i out = leaves (poolFault d i (length out)) out (pooledInto (tableAt d i) out)
-
--- 12: a price above 1,000,000.
-abbrev pub priceChecks : ℕ → ℕ → List Check
-priceChecks u v = at-most u 1_000_000 12 ∷ at-most v 1_000_000 12 ∷ []
-
--- "Cheapest 1, 22, 12."
-unfoldable pub cheapestFault : Desk → ℕ → ℕ → ℕ → ℕ
-cheapestFault d i u v = first (heldFault d i) (fault (priceChecks u v))
-
--- 23: no defaults. 24: no survivors.
-abbrev pub outcomeChecks : Table → List Check
-outcomeChecks t = at-most 1 (defaultsIn t) 23 ∷ at-most 1 (survivorsIn t) 24 ∷ []
-
--- "Measures 1, 22, 23, 24."
-unfoldable pub measuresFault : Desk → ℕ → ℕ
-measuresFault d i = first (heldFault d i) (fault (outcomeChecks (tableAt d i)))
-
--- 23 for either, 24 for either, 25
-unfoldable pub pairChecks : Table → Table → List Check
-pairChecks t₁ t₂ =
-    at-most 1 (defaultsIn t₁) 23
-    ∷ at-most 1 (defaultsIn t₂) 23
-    ∷ at-most 1 (survivorsIn t₁) 24
-    ∷ at-most 1 (survivorsIn t₂) 24
-    ∷ equal (defaultsIn t₁) (defaultsIn t₂) 25
-    ∷ equal (survivorsIn t₁) (survivorsIn t₂) 25
-    ∷ []
-
--- "Compare: 22, where place 1 is tried before place 2; 23 for either; 24 for either; 25."
-unfoldable pub compareFault : Desk → ℕ
-compareFault d =
-    first (emptyFault (d .first)) (first (emptyFault (d .second)) (fault (pairChecks (tableOf (d .first)) (tableOf (d .second)))))
-
 -- the tables of the loaded places, 1 before 2
 abbrev pub loadedTables : Desk → List Table
 loadedTables d = tablesOf (d .first) (d .second)
 
+-- the number that a call is refused with, 0 where it is accepted: 1, and then what the place answers
+abbrev pub numberOf : Desk → Call → ℕ
+numberOf d (ask i q) = firstFault (placeFault i) (questionFault (placeAt d i) q)
+numberOf d compare = compareFault (d .first) (d .second)
+numberOf d (fill i f out) = firstFault (placeFault i) (fillFault (placeAt d i) f (length out))
+numberOf d (write out) = writeFault (loadedTables d) (length out)
+numberOf d (change i c) = firstFault (placeFault i) (changeFault (placeAt d i) c)
+
+-- "Load fills an empty place, clear makes a loaded one as it is on a fresh desk, all other calls leave the desk unchanged."
+abbrev pub after : Desk → Call → Desk
+after d (ask i q) = d
+after d compare = d
+after d (fill i f out) = d
+after d (write out) = d
+after d (change i c) = leaves (numberOf d (change i c)) d (withPlace d i (changedTo c))
+
+-- The buffer lent to be written, before and after a call, and how much of it an accepted one writes.
+
+abbrev pub lent : Call → List ℕ
+lent (ask i q) = []
+lent compare = []
+lent (fill i f out) = out
+lent (write out) = out
+lent (change i c) = []
+
+abbrev pub lentAfter : Desk → Call → List ℕ
+lentAfter d (ask i q) = []
+lentAfter d compare = []
+lentAfter d (fill i f out) = leaves (numberOf d (fill i f out)) out (filledWith (tableAt d i) f out)
+lentAfter d (write out) = bufferAfter (loadedTables d) out
+lentAfter d (change i c) = []
+
+abbrev pub lentSize : Desk → Call → ℕ
+lentSize d (ask i q) = 0
+lentSize d compare = 0
+lentSize d (fill i f out) = fillSize (tableAt d i) f
+lentSize d (write out) = bookSize (loadedTables d)
+lentSize d (change i c) = 0
+
 -- What compare may answer. Refusals and the kind of verdict are given; the price pairs are limited only, since "which pair is carried
 -- is free; its prices are at most 1,000,000 and its costs differ as said".
 abbrev pub Compares : Desk → Answer Verdict → Type 0
-Compares d r = Limited (compareFault d) (IsVerdict (tableOf (d .first)) (tableOf (d .second))) r
+Compares d r = Limited (numberOf d compare) (IsVerdict (tableAt d 1) (tableAt d 2)) r
 
 -- What spread may answer. Refusals are given; the floats are limited only: "within 1/2^36" and "within 1/2^29".
 abbrev pub Spreads : Desk → ℕ → Answer Spread → Type 0
-Spreads d i r = Limited (heldFault d i) (IsSpread (tableAt d i)) r
+Spreads d i r = Limited (numberOf d (ask i spread)) (IsSpread (tableAt d i)) r

@@ -2,8 +2,8 @@
 use Prim.Native.Nat.{ℕ}
 use mathlib.Core.Bool.{cond}
 use lib.Dec.{eqb}
-use Rattle.table.specs.Table.{Table, Sound}
-use Rattle.table.specs.Place.{fresh, placeOf}
+use Rattle.table.specs.Table.{Table}
+use Rattle.table.specs.Place.{fresh, tableOf, SoundPlace}
 use Rattle.table.specs.declared.Place.{Place}
 use Rattle.desk.specs.declared.Desk.{Desk}
 
@@ -15,16 +15,15 @@ freshDesk = record { first = fresh; second = fresh }
 abbrev pub placeAt : Desk → ℕ → Place
 placeAt d i = cond (eqb i 1) (d .first) (d .second)
 
+-- the table in it
+abbrev pub tableAt : Desk → ℕ → Table
+tableAt d i = tableOf (placeAt d i)
+
 -- the desk with another place i
 abbrev pub withPlace : Desk → ℕ → Place → Desk
 withPlace d i p = cond (eqb i 1) (record { first = p; second = d .second }) (record { first = d .first; second = p })
 
--- What calls from the empty desk leave in a place: nothing, or a table.
-pub data SoundPlace : Place → Type 0 where
-  empty : SoundPlace fresh
-  holds : (t : Table) → Sound t → SoundPlace (placeOf t)
-
--- The one thing that a contract requires of a desk; `EveryDeskIsSound` shows that calls imply it.
+-- The one thing that a contract requires of a desk: each place is empty or holds a table. `EveryDeskIsSound` shows that calls imply it.
 pub record SoundDesk (d : Desk) : Type 0 where
   pub first : SoundPlace (d .first)
   pub second : SoundPlace (d .second)

@@ -1,6 +1,3 @@
 pub mod Desk
 pub mod Answers
 pub mod Calls
-pub mod History
-pub mod Demands
-pub mod Worked

@@ -1,35 +1,41 @@
-// The desk: two places side by side, and every call on them.
-// A method finds the place, or refuses; the function of its name in `on_place` makes the other checks. Those of compare are in `compare`.
+// The desk: two places side by side, and every call on them. A method looks at the place's number, turns the place into words and back, and
+// leaves the rest to the call on words of its name in the crate `calls`.
 ghost use mathlib.Core.Path.{_≡_};
+ghost use lib.Dec.{eqb};
 ghost use lib.ListN.{length};
+ghost use Rattle.table.specs.Place.{marked};
+ghost use Rattle.table.specs.Words.{placeSize, wordsOf, placeIn};
 ghost use Rattle.book.specs.Encode.{bookSize};
-ghost use Rattle.book.specs.Writing.{writeFault, bufferAfter};
 ghost use Rattle.cutoff.specs.Cutoff.{cheapestOf};
 ghost use Rattle.measures.specs.Measures.{measuresOf};
 ghost use Rattle.measures.specs.Brier.{brierOf};
-ghost use Rattle.desk.specs.Desk.{freshDesk, SoundDesk};
-ghost use Rattle.desk.specs.Answers.{answer, ackSays, writtenSays, cheapestSays, compareSays, measuresSays, brierSays, spreadSays};
-ghost use Rattle.desk.specs.Calls.{tableAt, heldFault, loadFault, afterLoad, afterClear, poolFault, afterPool, cheapestFault, measuresFault, loadedTables, Compares, Spreads};
+ghost use Rattle.calls.specs.Answers.{answer, leaves, cheapestSays, compareSays, measuresSays, brierSays, spreadSays};
+ghost use Rattle.calls.specs.Calls.{cheapest, measures, brier, pool, load, clear};
+ghost use Rattle.desk.specs.Desk.{freshDesk, placeAt, tableAt, withPlace, SoundDesk};
+ghost use Rattle.desk.specs.Answers.{ackSays, writtenSays};
+ghost use Rattle.desk.specs.Calls.{placeFault, ask, fill, write, change, numberOf, after, lentAfter, loadedTables, Compares, Spreads};
 
-pub mod compare;
-pub mod numbers;
-pub mod on_place;
-
-use crate::numbers::NO_PLACE;
-use book::Ack;
 use book::Written;
-use cutoff::CheapestCutoff;
-use cutoff::Verdict;
-use measures::Fraction;
-use measures::Measures;
-use spread::Spread;
+use calls::BrierAnswer;
+use calls::CheapestAnswer;
+use calls::CompareAnswer;
+use calls::MeasuresAnswer;
+use calls::SpreadAnswer;
+use refusals::NO_PLACE;
+use table::LOADED;
+use table::PLACE;
 use table::Place;
-use table::Totals;
 
 // The desk (document 01's term): two places, each empty or holding one table.
 pub struct Desk {
     pub first: Place,
     pub second: Place,
+}
+
+// The answer of a call that answers nothing further when it is accepted.
+pub enum Ack {
+    Done,
+    Refused(u32),
 }
 
 // The desk that load and clear hand back, beside their answer: an enum cannot hold the places' arrays.
@@ -38,41 +44,28 @@ pub struct Stored {
     pub ack: Ack,
 }
 
-// What load and clear make of one place, beside their answer.
-pub struct Changed {
-    pub place: Place,
-    pub ack: Ack,
+// Whether there is a place of this number.
+pub fn is_place(place: u32) -> bool
+    ensures { λ r. ⌜ r ≡ eqb (placeFault place) 0 ⌝ }
+{
+    match place {
+        1 => true,
+        2 => true,
+        _ => false,
+    }
 }
 
-pub enum CheapestAnswer {
-    Cheapest(CheapestCutoff),
-    Refused(u32),
-}
-
-pub enum CompareAnswer {
-    Verdict(Verdict),
-    Refused(u32),
-}
-
-pub enum MeasuresAnswer {
-    Measures(Measures),
-    Refused(u32),
-}
-
-pub enum BrierAnswer {
-    Brier(Fraction),
-    Refused(u32),
-}
-
-pub enum SpreadAnswer {
-    Spread(Spread),
-    Refused(u32),
-}
-
-// A place's answer to compare, which asks it for the totals of its table.
-pub enum TotalsAnswer {
-    Totals(Totals),
-    Refused(u32),
+impl Ack {
+    // Of a call that returned 0, or its refusal number.
+    fn of(number: u32) -> Ack
+        ensures { λ r. ⌜ ackSays r ≡ answer number tt ⌝ }
+    {
+        if number == 0 {
+            Ack::Done
+        } else {
+            Ack::Refused(number)
+        }
+    }
 }
 
 impl Desk {
@@ -85,85 +78,112 @@ impl Desk {
         Desk { first, second }
     }
 
-    // The desk with another place 1.
-    fn with_first(self, changed: Changed) -> Stored
-        ensures { λ r. ⌜ r ≡ record { desk = record { first = changed .place; second = self .second }; ack = changed .ack } ⌝ }
+    // The words of place 1 or 2.
+    fn words(self, place: u32) -> [u32; PLACE]
+        requires { ⌜ SoundDesk self ⌝ }
+        ensures { λ r. ⌜ r ≡ wordsOf (placeAt self place) ⌝ }
     {
-        let first = changed.place;
-        let second = self.second;
-        let ack = changed.ack;
-        Stored {
-            desk: Desk { first, second },
-            ack,
+        if place == 1 {
+            self.first.words()
+        } else {
+            self.second.words()
         }
     }
 
-    // The desk with another place 2.
-    fn with_second(self, changed: Changed) -> Stored
-        ensures { λ r. ⌜ r ≡ record { desk = record { first = self .first; second = changed .place }; ack = changed .ack } ⌝ }
+    // The words of an empty place with the mark of place 1 or 2: all that load and clear look at.
+    fn mark(self, place: u32) -> [u32; PLACE]
+        ensures { λ r. ⌜ r ≡ wordsOf (marked (placeAt self place .loaded)) ⌝ }
+    {
+        let loaded = if place == 1 { self.first.loaded } else { self.second.loaded };
+        let mut words = [0u32; PLACE];
+        if loaded {
+            words[LOADED] = 1;
+        }
+        words
+    }
+
+    // The desk with another place 1 or 2.
+    fn with_place(self, place: u32, other: Place) -> Desk
+        ensures { λ r. ⌜ r ≡ withPlace self place other ⌝ }
     {
         let first = self.first;
-        let second = changed.place;
-        let ack = changed.ack;
-        Stored {
-            desk: Desk { first, second },
-            ack,
+        let second = self.second;
+        if place == 1 {
+            Desk {
+                first: other,
+                second,
+            }
+        } else {
+            Desk {
+                first,
+                second: other,
+            }
         }
+    }
+
+    // What a change hands back that made these words of the place, or was refused.
+    fn stored(self, place: u32, refusal: u32, words: &[u32]) -> Stored
+        requires { ⌜ length (now words) ≡ placeSize ⌝ }
+        ensures { λ r. ⌜ r .desk ≡ leaves refusal self (withPlace self place (placeIn (now (words .entry)))) ⌝ }
+        ensures { λ r. ⌜ ackSays (r .ack) ≡ answer refusal tt ⌝ }
+    {
+        let ack = Ack::of(refusal);
+        if refusal != 0 {
+            return Stored { desk: self, ack };
+        }
+        let desk = self.with_place(place, Place::of_words(words));
+        Stored { desk, ack }
     }
 
     // Fills an empty place with the table of a rater of a book.
     pub fn load(self, place: u32, book: &[u8], rater: u32) -> Stored
-        ensures { λ r. ⌜ r .desk ≡ afterLoad self place (now (book .entry)) rater ⌝ }
-        ensures { λ r. ⌜ ackSays (r .ack) ≡ answer (loadFault self place (now (book .entry)) rater) tt ⌝ }
+        ensures { λ r. ⌜ r .desk ≡ after self (change place (load (now (book .entry)) rater)) ⌝ }
+        ensures { λ r. ⌜ ackSays (r .ack) ≡ answer (numberOf self (change place (load (now (book .entry)) rater))) tt ⌝ }
     {
-        match place {
-            1 => self.with_first(on_place::load(self.first, book, rater)),
-            2 => self.with_second(on_place::load(self.second, book, rater)),
-            _ => Stored {
-                desk: self,
-                ack: Ack::Refused(NO_PLACE),
-            },
+        let mut words = self.mark(place);
+        if !is_place(place) {
+            return self.stored(place, NO_PLACE, &words);
         }
+        let refusal = calls::load(&mut words, book, rater);
+        self.stored(place, refusal, &words)
     }
 
     // Makes a loaded place as it is on a fresh desk.
     pub fn clear(self, place: u32) -> Stored
-        ensures { λ r. ⌜ r .desk ≡ afterClear self place ⌝ }
-        ensures { λ r. ⌜ ackSays (r .ack) ≡ answer (heldFault self place) tt ⌝ }
+        ensures { λ r. ⌜ r .desk ≡ after self (change place clear) ⌝ }
+        ensures { λ r. ⌜ ackSays (r .ack) ≡ answer (numberOf self (change place clear)) tt ⌝ }
     {
-        match place {
-            1 => self.with_first(on_place::clear(self.first)),
-            2 => self.with_second(on_place::clear(self.second)),
-            _ => Stored {
-                desk: self,
-                ack: Ack::Refused(NO_PLACE),
-            },
+        let mut words = self.mark(place);
+        if !is_place(place) {
+            return self.stored(place, NO_PLACE, &words);
         }
+        let refusal = calls::clear(&mut words);
+        self.stored(place, refusal, &words)
     }
 
     // The three numbers of each grade of the table in a place, into a lent buffer whose further numbers are kept.
     pub fn pool(self, place: u32, out: &mut [u32]) -> Ack
         requires { ⌜ SoundDesk self ⌝ }
-        ensures { λ r. ⌜ now (out .exit) ≡ afterPool self place (now (out .entry)) ⌝ }
-        ensures { λ r. ⌜ ackSays r ≡ answer (poolFault self place (length (now (out .entry)))) tt ⌝ }
+        ensures { λ r. ⌜ now (out .exit) ≡ lentAfter self (fill place pool (now (out .entry))) ⌝ }
+        ensures { λ r. ⌜ ackSays r ≡ answer (numberOf self (fill place pool (now (out .entry)))) tt ⌝ }
     {
-        match place {
-            1 => on_place::pool(self.first, out),
-            2 => on_place::pool(self.second, out),
-            _ => Ack::Refused(NO_PLACE),
+        if !is_place(place) {
+            return Ack::Refused(NO_PLACE);
         }
+        let words = self.words(place);
+        Ack::of(calls::pool(&words, out))
     }
 
     // The cheapest cutoff at price u of a missed default and v of a survivor turned away.
     pub fn cheapest(self, place: u32, u: u32, v: u32) -> CheapestAnswer
         requires { ⌜ SoundDesk self ⌝ }
-        ensures { λ r. ⌜ cheapestSays r ≡ answer (cheapestFault self place u v) (cheapestOf (tableAt self place) u v) ⌝ }
+        ensures { λ r. ⌜ cheapestSays r ≡ answer (numberOf self (ask place (cheapest u v))) (cheapestOf (tableAt self place) u v) ⌝ }
     {
-        match place {
-            1 => on_place::cheapest(self.first, u, v),
-            2 => on_place::cheapest(self.second, u, v),
-            _ => CheapestAnswer::Refused(NO_PLACE),
+        if !is_place(place) {
+            return CheapestAnswer::Refused(NO_PLACE);
         }
+        let words = self.words(place);
+        calls::cheapest(&words, u, v)
     }
 
     // Which of the two scales is better. Document 01 leaves open which price pairs the verdict carries, so the contract limits them:
@@ -172,44 +192,33 @@ impl Desk {
         requires { ⌜ SoundDesk self ⌝ }
         ensures { λ r. ⌜ Compares self (compareSays r) ⌝ }
     {
-        let first = self.first;
-        let second = self.second;
-        compare::compare_in(
-            &first.obligors,
-            &first.defaults,
-            &first.announced,
-            first.grades,
-            first.loaded,
-            &second.obligors,
-            &second.defaults,
-            &second.announced,
-            second.grades,
-            second.loaded,
-        )
+        let first = self.first.words();
+        let second = self.second.words();
+        calls::compare(&first, &second)
     }
 
     // D, S and the four measures of the table in a place.
     pub fn measures(self, place: u32) -> MeasuresAnswer
         requires { ⌜ SoundDesk self ⌝ }
-        ensures { λ r. ⌜ measuresSays r ≡ answer (measuresFault self place) (measuresOf (tableAt self place)) ⌝ }
+        ensures { λ r. ⌜ measuresSays r ≡ answer (numberOf self (ask place measures)) (measuresOf (tableAt self place)) ⌝ }
     {
-        match place {
-            1 => on_place::measures(self.first),
-            2 => on_place::measures(self.second),
-            _ => MeasuresAnswer::Refused(NO_PLACE),
+        if !is_place(place) {
+            return MeasuresAnswer::Refused(NO_PLACE);
         }
+        let words = self.words(place);
+        calls::measures(&words)
     }
 
     // The Brier score of the announced rates.
     pub fn brier(self, place: u32) -> BrierAnswer
         requires { ⌜ SoundDesk self ⌝ }
-        ensures { λ r. ⌜ brierSays r ≡ answer (heldFault self place) (brierOf (tableAt self place)) ⌝ }
+        ensures { λ r. ⌜ brierSays r ≡ answer (numberOf self (ask place brier)) (brierOf (tableAt self place)) ⌝ }
     {
-        match place {
-            1 => on_place::brier(self.first),
-            2 => on_place::brier(self.second),
-            _ => BrierAnswer::Refused(NO_PLACE),
+        if !is_place(place) {
+            return BrierAnswer::Refused(NO_PLACE);
         }
+        let words = self.words(place);
+        calls::brier(&words)
     }
 
     // The spread record. Document 01 leaves the two floats open, so the contract limits them: "The price pairs and the two floats alone
@@ -218,19 +227,21 @@ impl Desk {
         requires { ⌜ SoundDesk self ⌝ }
         ensures { λ r. ⌜ Spreads self place (spreadSays r) ⌝ }
     {
-        match place {
-            1 => on_place::spread(self.first),
-            2 => on_place::spread(self.second),
-            _ => SpreadAnswer::Refused(NO_PLACE),
+        if !is_place(place) {
+            return SpreadAnswer::Refused(NO_PLACE);
         }
+        let words = self.words(place);
+        calls::spread(&words)
     }
 
     // The loaded places, 1 before 2, as a book of kind 0 in a lent buffer whose further bytes are kept.
     pub fn write(self, out: &mut [u8]) -> Written
         requires { ⌜ SoundDesk self ⌝ }
-        ensures { λ r. ⌜ now (out .exit) ≡ bufferAfter (loadedTables self) (now (out .entry)) ⌝ }
-        ensures { λ r. ⌜ writtenSays r ≡ answer (writeFault (loadedTables self) (length (now (out .entry)))) (bookSize (loadedTables self)) ⌝ }
+        ensures { λ r. ⌜ now (out .exit) ≡ lentAfter self (write (now (out .entry))) ⌝ }
+        ensures { λ r. ⌜ writtenSays r ≡ answer (numberOf self (write (now (out .entry)))) (bookSize (loadedTables self)) ⌝ }
     {
-        book::write(self.first, self.second, out)
+        let first = self.first.words();
+        let second = self.second.words();
+        book::write(&first, &second, out)
     }
 }

@@ -3,7 +3,8 @@ use mathlib.Core.Path.{_≡_}
 use mathlib.Core.List.{List}
 use Rattle.desk.specs.declared.Desk.{Desk}
 use Rattle.desk.specs.Desk.{SoundDesk}
-use Rattle.desk.specs.History.{Call, deskAfter}
+use Rattle.desk.specs.Calls.{Call}
+use Rattle.demands.specs.History.{deskAfter}
 use Rattle.desk_c.specs.Image.{imageOf, deskIn, IsImage}
 
 -- An image is read back as the desk that it is of.

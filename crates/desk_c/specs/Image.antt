@@ -1,42 +1,42 @@
--- The image of a desk: its two places as 244 numbers of 4 bytes in the caller's memory, as include/desk.h lays them out.
-use Prim.Native.Nat.{ℕ, _+_}
+-- The image of a desk: the words of its two places, 244 numbers of 4 bytes in the caller's memory, as include/desk.h lays them out.
+use Prim.Native.Nat.{ℕ}
 use mathlib.Core.Path.{_≡_}
 use mathlib.Core.Bool.{cond}
-use mathlib.Core.List.{List, [], _∷_, _++_}
+use mathlib.Core.List.{List, _++_}
 use lib.Dec.{eqb}
-use lib.ListN.{getD, take, drop}
+use lib.ListN.{take, drop}
+use lib.Seq.{paste}
+use Rattle.table.specs.Table.{Table}
 use Rattle.table.specs.declared.Place.{Place}
+use Rattle.table.specs.Words.{placeSize, wordsOf, placeIn}
 use Rattle.desk.specs.declared.Desk.{Desk}
-use Rattle.desk.specs.Desk.{placeAt, SoundDesk}
+use Rattle.desk.specs.Desk.{tableAt, SoundDesk}
 
--- the 122 numbers of a place: three columns of 40 grades, the grade count, and 1 where it is loaded
-abbrev pub placeImage : Place → List ℕ
-placeImage p = p .obligors ++ p .defaults ++ p .announced ++ (p .grades ∷ cond (p .loaded) 1 0 ∷ [])
+-- how many numbers there are
+abbrev pub deskSize : ℕ
+deskSize = 244
 
 abbrev pub imageOf : Desk → List ℕ
-imageOf d = placeImage (d .first) ++ placeImage (d .second)
+imageOf d = wordsOf (d .first) ++ wordsOf (d .second)
 
--- the 40 numbers from `at` on
-abbrev pub columnIn : List ℕ → ℕ → List ℕ
-columnIn w at = take 40 (drop at w)
+-- where the words of place i start
+abbrev pub startOf : ℕ → ℕ
+startOf i = cond (eqb i 1) 0 placeSize
 
--- the place whose numbers stand from `at` on
-abbrev pub placeIn : List ℕ → ℕ → Place
-placeIn w at =
-    record {
-      obligors = columnIn w at;
-      defaults = columnIn w (at + 40);
-      announced = columnIn w (at + 80);
-      grades = getD w (at + 120) 0;
-      loaded = eqb (getD w (at + 121) 0) 1;
-    }
+-- the words of a place that start at `at`
+abbrev pub wordsFrom : List ℕ → ℕ → List ℕ
+wordsFrom w at = take placeSize (drop at w)
 
 abbrev pub deskIn : List ℕ → Desk
-deskIn w = record { first = placeIn w 0; second = placeIn w 122 }
+deskIn w = record { first = placeIn (wordsFrom w 0); second = placeIn (wordsFrom w placeSize) }
 
--- The numbers of place i start at `at`.
-abbrev pub StartsAt : ℕ → ℕ → Type 0
-StartsAt i at = (w : List ℕ) → placeIn w at ≡ placeAt (deskIn w) i
+-- the table in place i
+abbrev pub tableOn : List ℕ → ℕ → Table
+tableOn w i = tableAt (deskIn w) i
+
+-- an image in which the words from `at` on are those of p
+abbrev pub withWords : List ℕ → ℕ → Place → List ℕ
+withWords w at p = paste w at (wordsOf p) placeSize
 
 -- What a function requires of the numbers of a desk: they are the image of a desk that calls left.
 pub record IsImage (w : List ℕ) : Type 0 where

@@ -8,7 +8,7 @@ use Rattle.cutoff.specs.declared.CheapestCutoff.{CheapestCutoff}
 use Rattle.cutoff.specs.declared.Verdict.{Verdict}
 use Rattle.cutoff.specs.declared.Verdict.the-variants.{Equal, First, Second, Crossing}
 use Rattle.measures.specs.declared.Measures.{Measures}
-use Rattle.measures.specs.declared.Fraction.{Fraction}
+use Rattle.measures.specs.declared.UnsignedFraction.{UnsignedFraction}
 use Rattle.spread.specs.declared.Spread.{Spread}
 
 -- What a call with the first fault n may leave in its buffer, where document 01 leaves the values of the answer freer: what was there,
@@ -42,7 +42,7 @@ measuresNumbers m =
     ∷ pos (m .cutoff)
     ∷ []
 
-abbrev pub fractionNumbers : Fraction → List ℤ
+abbrev pub fractionNumbers : UnsignedFraction → List ℤ
 fractionNumbers f = pos (f .numerator) ∷ pos (f .denominator) ∷ []
 
 abbrev pub spreadNumbers : Spread → List Float

@@ -1,46 +1,36 @@
-// The desk for callers in C and other languages: every entry point over the image of a desk in the caller's memory.
-// A function returns 0 or the refusal number; its answer goes to a lent buffer, which a refusal leaves as it was.
+// The desk for callers in C and other languages: every entry point over the image of a desk in the caller's memory, of which a part is lent
+// to the calls on words. A function returns 0 or the refusal number; its answer goes to a lent buffer, which a refusal leaves as it was.
 ghost use mathlib.Core.Path.{_≡_};
-ghost use lib.ListN.{length};
 ghost use Rattle.book.specs.Encode.{bookSize};
-ghost use Rattle.book.specs.Writing.{writeFault, bufferAfter};
 ghost use Rattle.cutoff.specs.Cutoff.{cheapestOf};
 ghost use Rattle.cutoff.specs.Verdict.{IsVerdict};
 ghost use Rattle.measures.specs.Measures.{measuresOf};
 ghost use Rattle.measures.specs.Brier.{brierOf};
 ghost use Rattle.spread.specs.Spread.{IsSpread};
+ghost use Rattle.calls.specs.Answers.{leaves};
+ghost use Rattle.calls.specs.Calls.{cheapest, measures, brier, spread, pool, load, clear};
 ghost use Rattle.desk.specs.Desk.{freshDesk};
-ghost use Rattle.desk.specs.Answers.{leaves};
-ghost use Rattle.desk.specs.Calls.{tableAt, heldFault, loadFault, afterLoad, afterClear, poolFault, afterPool, cheapestFault, measuresFault, compareFault, loadedTables};
-ghost use Rattle.desk_c.specs.Image.{imageOf, deskIn, IsImage};
+ghost use Rattle.desk.specs.Calls.{ask, compare, fill, write, change, numberOf, after, lentAfter, loadedTables};
+ghost use Rattle.desk_c.specs.Image.{imageOf, deskIn, tableOn, IsImage};
 ghost use Rattle.desk_c.specs.Numbers.{Left, cutoffNumbers, verdictNumbers, measuresNumbers, fractionNumbers, spreadNumbers};
 
-mod ask;
 mod image;
 
-use crate::ask::brier_at;
-use crate::ask::cheapest_at;
-use crate::ask::compare_both;
-use crate::ask::measures_at;
-use crate::ask::pool_at;
-use crate::ask::spread_at;
-use crate::ask::write_both;
 use crate::image::DESK;
-use crate::image::empty_place;
-use crate::image::is_place;
+use crate::image::clear_at;
+use crate::image::load_at;
 use crate::image::start_of;
-use crate::image::store_table;
-use book::Ack;
+use crate::image::words_at;
 use book::Written;
+use calls::BrierAnswer;
+use calls::CheapestAnswer;
+use calls::CompareAnswer;
+use calls::MeasuresAnswer;
+use calls::SpreadAnswer;
 use cutoff::Verdict;
-use desk::BrierAnswer;
-use desk::CheapestAnswer;
-use desk::CompareAnswer;
-use desk::MeasuresAnswer;
-use desk::SpreadAnswer;
-use desk::numbers::EMPTY;
-use desk::numbers::LOADED;
-use desk::numbers::NO_PLACE;
+use desk::is_place;
+use refusals::NO_PLACE;
+use table::PLACE;
 
 // A fresh desk.
 #[no_mangle]
@@ -56,57 +46,39 @@ pub extern "C" fn desk_empty(desk: &mut [u32; DESK]) -> u32
 #[no_mangle]
 pub extern "C" fn desk_load(desk: &mut [u32; DESK], place: u32, book: &[u8], rater: u32) -> u32
     requires { ⌜ IsImage (now desk) ⌝ }
-    ensures { λ r. ⌜ r ≡ loadFault (deskIn (now (desk .entry))) place (now (book .entry)) rater ⌝ }
-    ensures { λ _. ⌜ now (desk .exit) ≡ imageOf (afterLoad (deskIn (now (desk .entry))) place (now (book .entry)) rater) ⌝ }
+    ensures { λ r. ⌜ r ≡ numberOf (deskIn (now (desk .entry))) (change place (load (now (book .entry)) rater)) ⌝ }
+    ensures { λ _. ⌜ now (desk .exit) ≡ imageOf (after (deskIn (now (desk .entry))) (change place (load (now (book .entry)) rater))) ⌝ }
 {
     if !is_place(place) {
         return NO_PLACE;
     }
-    let at = start_of(place);
-    if desk[at + 121] == 1 {
-        return LOADED;
-    }
-    let fault = book::read_fault(book, rater);
-    if fault != 0 {
-        return fault;
-    }
-    store_table(desk, place, book, rater);
-    0
+    load_at(desk, start_of(place), book, rater)
 }
 
 // Makes a loaded place as it is on a fresh desk.
 #[no_mangle]
 pub extern "C" fn desk_clear(desk: &mut [u32; DESK], place: u32) -> u32
     requires { ⌜ IsImage (now desk) ⌝ }
-    ensures { λ r. ⌜ r ≡ heldFault (deskIn (now (desk .entry))) place ⌝ }
-    ensures { λ _. ⌜ now (desk .exit) ≡ imageOf (afterClear (deskIn (now (desk .entry))) place) ⌝ }
+    ensures { λ r. ⌜ r ≡ numberOf (deskIn (now (desk .entry))) (change place clear) ⌝ }
+    ensures { λ _. ⌜ now (desk .exit) ≡ imageOf (after (deskIn (now (desk .entry))) (change place clear)) ⌝ }
 {
     if !is_place(place) {
         return NO_PLACE;
     }
-    let at = start_of(place);
-    if desk[at + 121] != 1 {
-        return EMPTY;
-    }
-    empty_place(desk, place);
-    0
+    clear_at(desk, start_of(place))
 }
 
 // The three numbers of each grade of the table in a place, into a lent buffer whose further numbers are kept.
 #[no_mangle]
 pub extern "C" fn desk_pool(desk: &[u32; DESK], place: u32, numbers: &mut [u32]) -> u32
     requires { ⌜ IsImage (now desk) ⌝ }
-    ensures { λ r. ⌜ r ≡ poolFault (deskIn (now (desk .entry))) place (length (now (numbers .entry))) ⌝ }
-    ensures { λ _. ⌜ now (numbers .exit) ≡ afterPool (deskIn (now (desk .entry))) place (now (numbers .entry)) ⌝ }
+    ensures { λ r. ⌜ r ≡ numberOf (deskIn (now (desk .entry))) (fill place pool (now (numbers .entry))) ⌝ }
+    ensures { λ _. ⌜ now (numbers .exit) ≡ lentAfter (deskIn (now (desk .entry))) (fill place pool (now (numbers .entry))) ⌝ }
 {
     if !is_place(place) {
         return NO_PLACE;
     }
-    let ack = pool_at(desk, place, numbers);
-    match ack {
-        Ack::Done => 0,
-        Ack::Refused(n) => n,
-    }
+    calls::pool(words_at(desk, start_of(place)), numbers)
 }
 
 // The cheapest cutoff at price u of a missed default and v of a survivor turned away.
@@ -119,13 +91,13 @@ pub extern "C" fn desk_cheapest(
     answer: &mut [u64; 2],
 ) -> u32
     requires { ⌜ IsImage (now desk) ⌝ }
-    ensures { λ r. ⌜ r ≡ cheapestFault (deskIn (now (desk .entry))) place u v ⌝ }
-    ensures { λ _. ⌜ now (answer .exit) ≡ leaves (cheapestFault (deskIn (now (desk .entry))) place u v) (now (answer .entry)) (cutoffNumbers (cheapestOf (tableAt (deskIn (now (desk .entry))) place) u v)) ⌝ }
+    ensures { λ r. ⌜ r ≡ numberOf (deskIn (now (desk .entry))) (ask place (cheapest u v)) ⌝ }
+    ensures { λ r. let t = tableOn (now (desk .entry)) place in ⌜ now (answer .exit) ≡ leaves r (now (answer .entry)) (cutoffNumbers (cheapestOf t u v)) ⌝ }
 {
     if !is_place(place) {
         return NO_PLACE;
     }
-    let cheapest = cheapest_at(desk, place, u, v);
+    let cheapest = calls::cheapest(words_at(desk, start_of(place)), u, v);
     match cheapest {
         CheapestAnswer::Cheapest(c) => {
             *answer = [c.cutoff as u64, c.cost];
@@ -139,10 +111,10 @@ pub extern "C" fn desk_cheapest(
 #[no_mangle]
 pub extern "C" fn desk_compare(desk: &[u32; DESK], answer: &mut [u32; 5]) -> u32
     requires { ⌜ IsImage (now desk) ⌝ }
-    ensures { λ r. ⌜ r ≡ compareFault (deskIn (now (desk .entry))) ⌝ }
-    ensures { λ _. ⌜ Left (compareFault (deskIn (now (desk .entry)))) (IsVerdict (tableAt (deskIn (now (desk .entry))) 1) (tableAt (deskIn (now (desk .entry))) 2)) verdictNumbers (now (answer .entry)) (now (answer .exit)) ⌝ }
+    ensures { λ r. ⌜ r ≡ numberOf (deskIn (now (desk .entry))) compare ⌝ }
+    ensures { λ r. let w = now (desk .entry) in ⌜ Left r (IsVerdict (tableOn w 1) (tableOn w 2)) verdictNumbers (now (answer .entry)) (now (answer .exit)) ⌝ }
 {
-    let compared = compare_both(desk);
+    let compared = calls::compare(words_at(desk, 0), words_at(desk, PLACE));
     match compared {
         CompareAnswer::Verdict(v) => {
             *answer = numbers_of(v);
@@ -168,13 +140,13 @@ fn numbers_of(v: Verdict) -> [u32; 5]
 #[no_mangle]
 pub extern "C" fn desk_measures(desk: &[u32; DESK], place: u32, answer: &mut [i64; 11]) -> u32
     requires { ⌜ IsImage (now desk) ⌝ }
-    ensures { λ r. ⌜ r ≡ measuresFault (deskIn (now (desk .entry))) place ⌝ }
-    ensures { λ _. ⌜ now (answer .exit) ≡ leaves (measuresFault (deskIn (now (desk .entry))) place) (now (answer .entry)) (measuresNumbers (measuresOf (tableAt (deskIn (now (desk .entry))) place))) ⌝ }
+    ensures { λ r. ⌜ r ≡ numberOf (deskIn (now (desk .entry))) (ask place measures) ⌝ }
+    ensures { λ r. let t = tableOn (now (desk .entry)) place in ⌜ now (answer .exit) ≡ leaves r (now (answer .entry)) (measuresNumbers (measuresOf t)) ⌝ }
 {
     if !is_place(place) {
         return NO_PLACE;
     }
-    let measured = measures_at(desk, place);
+    let measured = calls::measures(words_at(desk, start_of(place)));
     match measured {
         MeasuresAnswer::Measures(m) => {
             *answer = [
@@ -200,13 +172,13 @@ pub extern "C" fn desk_measures(desk: &[u32; DESK], place: u32, answer: &mut [i6
 #[no_mangle]
 pub extern "C" fn desk_brier(desk: &[u32; DESK], place: u32, answer: &mut [i64; 2]) -> u32
     requires { ⌜ IsImage (now desk) ⌝ }
-    ensures { λ r. ⌜ r ≡ heldFault (deskIn (now (desk .entry))) place ⌝ }
-    ensures { λ _. ⌜ now (answer .exit) ≡ leaves (heldFault (deskIn (now (desk .entry))) place) (now (answer .entry)) (fractionNumbers (brierOf (tableAt (deskIn (now (desk .entry))) place))) ⌝ }
+    ensures { λ r. ⌜ r ≡ numberOf (deskIn (now (desk .entry))) (ask place brier) ⌝ }
+    ensures { λ r. let t = tableOn (now (desk .entry)) place in ⌜ now (answer .exit) ≡ leaves r (now (answer .entry)) (fractionNumbers (brierOf t)) ⌝ }
 {
     if !is_place(place) {
         return NO_PLACE;
     }
-    let scored = brier_at(desk, place);
+    let scored = calls::brier(words_at(desk, start_of(place)));
     match scored {
         BrierAnswer::Brier(f) => {
             *answer = [f.numerator as i64, f.denominator as i64];
@@ -220,13 +192,13 @@ pub extern "C" fn desk_brier(desk: &[u32; DESK], place: u32, answer: &mut [i64; 
 #[no_mangle]
 pub extern "C" fn desk_spread(desk: &[u32; DESK], place: u32, answer: &mut [f64; 2]) -> u32
     requires { ⌜ IsImage (now desk) ⌝ }
-    ensures { λ r. ⌜ r ≡ heldFault (deskIn (now (desk .entry))) place ⌝ }
-    ensures { λ _. ⌜ Left (heldFault (deskIn (now (desk .entry))) place) (IsSpread (tableAt (deskIn (now (desk .entry))) place)) spreadNumbers (now (answer .entry)) (now (answer .exit)) ⌝ }
+    ensures { λ r. ⌜ r ≡ numberOf (deskIn (now (desk .entry))) (ask place spread) ⌝ }
+    ensures { λ r. let t = tableOn (now (desk .entry)) place in ⌜ Left r (IsSpread t) spreadNumbers (now (answer .entry)) (now (answer .exit)) ⌝ }
 {
     if !is_place(place) {
         return NO_PLACE;
     }
-    let spread = spread_at(desk, place);
+    let spread = calls::spread(words_at(desk, start_of(place)));
     match spread {
         SpreadAnswer::Spread(s) => {
             *answer = [s.total, s.residual];
@@ -240,11 +212,11 @@ pub extern "C" fn desk_spread(desk: &[u32; DESK], place: u32, answer: &mut [f64;
 #[no_mangle]
 pub extern "C" fn desk_write(desk: &[u32; DESK], book: &mut [u8], written: &mut usize) -> u32
     requires { ⌜ IsImage (now desk) ⌝ }
-    ensures { λ r. ⌜ r ≡ writeFault (loadedTables (deskIn (now (desk .entry)))) (length (now (book .entry))) ⌝ }
-    ensures { λ _. ⌜ now (book .exit) ≡ bufferAfter (loadedTables (deskIn (now (desk .entry)))) (now (book .entry)) ⌝ }
-    ensures { λ _. ⌜ now (written .exit) ≡ leaves (writeFault (loadedTables (deskIn (now (desk .entry)))) (length (now (book .entry)))) (now (written .entry)) (bookSize (loadedTables (deskIn (now (desk .entry))))) ⌝ }
+    ensures { λ r. ⌜ r ≡ numberOf (deskIn (now (desk .entry))) (write (now (book .entry))) ⌝ }
+    ensures { λ _. ⌜ now (book .exit) ≡ lentAfter (deskIn (now (desk .entry))) (write (now (book .entry))) ⌝ }
+    ensures { λ r. let d = deskIn (now (desk .entry)) in ⌜ now (written .exit) ≡ leaves r (now (written .entry)) (bookSize (loadedTables d)) ⌝ }
 {
-    let answered = write_both(desk, book);
+    let answered = book::write(words_at(desk, 0), words_at(desk, PLACE), book);
     match answered {
         Written::Length(n) => {
             *written = n as usize;

@@ -1,21 +1,25 @@
 -- The table in a place. A place (document 01's term) is room for one table on the desk.
 use Prim.Native.Nat.{ℕ, zero, suc, _-_}
-use mathlib.Core.Bool.{true, false}
+use mathlib.Core.Bool.{Bool, true, false}
 use mathlib.Core.List.{List, [], _∷_, _++_, map}
 use lib.ListN.{length, getD, replicate}
 use Rattle.table.specs.Table.{Table, Grade, Sound}
 use Rattle.table.specs.declared.Place.{Place}
 
--- a place of a fresh desk
-abbrev pub fresh : Place
-fresh =
+-- a place without a table, marked as loaded or not
+abbrev pub marked : Bool → Place
+marked b =
     record {
       obligors = replicate 40 0;
       defaults = replicate 40 0;
       announced = replicate 40 0;
       grades = 0;
-      loaded = false;
+      loaded = b;
     }
+
+-- a place of a fresh desk
+abbrev pub fresh : Place
+fresh = marked false
 
 -- grade i, the best being 0
 abbrev pub gradeAt : Place → ℕ → Grade

@@ -1,0 +1,17 @@
+-- What a call answers and leaves, by the number of its first fault.
+use Prim.Native.Nat.{ℕ, zero, suc}
+use mathlib.Core.Path.{_≡_, refl}
+use Rattle.calls.specs.Answers.{accepted, refused, answer, leaves}
+
+module _ {A : Type 0} where
+  pub refuses : (n : ℕ) {m : ℕ} (x : A) → n ≡ m → (n ≡ 0 → ⊥) → refused n ≡ answer m x
+  refuses zero x e k = absurd (k refl)
+  refuses (suc n) x e k = rw (← e)
+
+  pub accepts : {x y : A} {m : ℕ} → 0 ≡ m → x ≡ y → accepted x ≡ answer m y
+  accepts e h = rw (← e, h)
+
+  -- nothing is changed
+  pub keeps : (n : ℕ) (old new : A) → (n ≡ 0 → ⊥) → old ≡ leaves n old new
+  keeps zero old new k = absurd (k refl)
+  keeps (suc n) old new k = refl

@@ -1,0 +1,3 @@
+pub mod Leaves
+pub mod Answered
+pub mod Compared

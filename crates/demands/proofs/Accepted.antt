@@ -1,0 +1,80 @@
+-- What accepted calls on a sound desk do: pool writes the monotone regression, measures has a mixed table, what write leaves is loaded
+-- again, and a book whose tables are loaded is written again.
+use Prim.Native.Nat.{ℕ, _-_, _≤_}
+use mathlib.Core.Path.{_≡_, refl, sym, ap, _∙_}
+use mathlib.Core.Bool.{Bool, true, false, cond}
+use mathlib.Core.List.{List, [], _++_}
+use native.Mathlib.Omega.{arith}
+use lib.Dec.{eqb}
+use lib.ListN.{length, take, drop, getD}
+use Rattle.table.specs.Table.{Every, Sound}
+use Rattle.table.specs.Place.{SoundPlace}
+use Rattle.table.proofs.Test.{by-test}
+use Rattle.table.proofs.Words.{sound-loaded}
+use Rattle.table.specs.declared.Place.{Place}
+use Rattle.book.specs.Bytes.{Byte}
+use Rattle.book.specs.Layout.{raters, startOf, kindAt, layoutFault}
+use Rattle.book.specs.Rows.{tablesIn}
+use Rattle.book.specs.Encode.{bookSize, encode}
+use Rattle.book.specs.Writing.{writeFault, lengthOr, bufferOr}
+use Rattle.book.proofs.Checks.{held, held-first}
+use Rattle.book.proofs.Books.{length-encode}
+use Rattle.book.proofs.Claims.{WrittenBookReadsBack, ReadBookWritesBack}
+use Rattle.pooling.specs.Numbers.{ratesWritten}
+use Rattle.pooling.specs.Regression.{IsRegression}
+use Rattle.pooling.proofs.LeastSquares.{pooled-regression}
+use Rattle.pooling.proofs.Written.{rates-written}
+use Rattle.measures.specs.Claims.{Mixed}
+use Rattle.calls.specs.Calls.{emptyFault, measures, questionFault, pool, fillFault}
+use Rattle.desk.specs.declared.Desk.{Desk}
+use Rattle.desk.specs.Desk.{placeAt, tableAt, SoundDesk}
+use Rattle.desk.specs.Calls.{ask, fill, write, numberOf, lentAfter, loadedTables}
+use Rattle.demands.specs.History.{nothing, table, filled}
+
+-- The table that a call works on is sound.
+
+is-loaded : (b : Bool) → _≡_ {A = ℕ} (cond b 0 22) 0 → b ≡ true
+is-loaded true e = refl
+is-loaded false e = absurd (omega arith)
+
+table-sound : (d : Desk) → SoundDesk d → (i : ℕ) → emptyFault (placeAt d i) ≡ 0 → Sound (tableAt d i)
+table-sound d s i e =
+    sound-loaded
+    (by-test SoundPlace (eqb i 1) {l = d .first} {r = d .second} (λ _. s .first) (λ _. s .second))
+    (is-loaded (placeAt d i .loaded) e)
+
+-- Pool and measures.
+
+pub regression-written : (d : Desk) → SoundDesk d → (i : ℕ) (out : List ℕ) → numberOf d (fill i pool out) ≡ 0
+    → IsRegression (tableAt d i) (ratesWritten (length (tableAt d i)) (lentAfter d (fill i pool out)))
+unfolding fillFault
+regression-written d s i out e =
+    let f = held-first _ _ (held-first _ _ e .1) in
+    rw (e, rates-written (tableAt d i) out) (pooled-regression (tableAt d i) (table-sound d s i (f .0) .occupied))
+
+pub measured-mixed : (d : Desk) → SoundDesk d → (i : ℕ) → numberOf d (ask i measures) ≡ 0 → Mixed (tableAt d i)
+unfolding questionFault
+measured-mixed d s i e =
+    let f = held-first _ _ (held-first _ _ e .1) in
+    let h = held _ (f .1) in
+    record { counted = table-sound d s i (f .0) .counted; defaulted = h .0; survived = h .1 .0 }
+
+-- Write.
+
+pub loads-back : (d : Desk) → SoundDesk d → (out : List ℕ) → writeFault (loadedTables d) (length out) ≡ 0
+    → (j : ℕ) → 1 ≤ j → j ≤ length (loadedTables d)
+    → filled nothing (take (bookSize (loadedTables d)) (lentAfter d (write out))) j ≡ table (getD (loadedTables d) (j - 1) [])
+unfolding lengthOr
+loads-back d s out e j from to =
+    let ts = loadedTables d in
+    let r = WrittenBookReadsBack (d .first) (d .second) (sound-loaded (s .first)) (sound-loaded (s .second)) out (bookSize ts) (rw e refl) j from to in
+    rw (r .0, r .1)
+
+pub writes-back : (b : List ℕ) → Every Byte b → layoutFault b ≡ 0 → ((j : ℕ) → 1 ≤ j → j ≤ raters b → kindAt b (startOf b j) ≡ 0)
+    → (d : Desk) → loadedTables d ≡ tablesIn b 1 (raters b) → (out : List ℕ) → writeFault (loadedTables d) (length out) ≡ 0
+    → lentAfter d (write out) ≡ b ++ drop (length b) out
+unfolding bufferOr
+writes-back b bytes e kinds d ts out f =
+    let again : encode (loadedTables d) ≡ b = rw ts (ReadBookWritesBack b bytes e kinds) in
+    let size : bookSize (loadedTables d) ≡ length b = sym (length-encode (loadedTables d)) ∙ ap (λ l. length l) again in
+    rw (f, again, size)

@@ -1,0 +1,98 @@
+-- The desk that calls leave holds the tables that were loaded, and they are sound.
+use Prim.Native.Nat.{ℕ}
+use mathlib.Core.Path.{_≡_, refl}
+use mathlib.Core.List.{List, [], _∷_}
+use borrow.Author.Tests.{ne-eqb}
+use lib.Dec.{eqb}
+use Rattle.table.specs.Table.{Table, Sound}
+use Rattle.table.specs.Place.{placeOf}
+use Rattle.table.proofs.Test.{by-test}
+use Rattle.table.specs.Place.{SoundPlace, empty, holds}
+use Rattle.book.specs.Checks.{fault, firstFault}
+use Rattle.book.specs.Rows.{tableOfRater}
+use Rattle.book.specs.Reading.{readFault}
+use Rattle.calls.specs.Calls.{Change, load, clear, changeFault}
+use Rattle.calls.proofs.Leaves.{by-fault, leaves-map}
+use Rattle.desk.specs.declared.Desk.{Desk}
+use Rattle.desk.specs.Desk.{SoundDesk}
+use Rattle.desk.specs.Calls.{Call, ask, compare, fill, write, change, after}
+use Rattle.desk.proofs.Soundness.{read-sound}
+use Rattle.desk.proofs.Number.{Number, one, two, neither, number}
+use Rattle.demands.specs.History.{deskFrom, deskAfter, Held, nothing, table, filled, heldThen, heldAfter, heldFrom, held, placed}
+
+-- a desk by what its places hold
+abbrev pub deskOf : Held → Held → Desk
+deskOf h k = record { first = placed h; second = placed k }
+
+-- The desk after one call.
+
+after-change : (h k : Held) (c : Change) {i : ℕ} → Number i
+    → after (deskOf h k) (change i c) ≡ deskOf (heldAfter 1 h (change i c)) (heldAfter 2 k (change i c))
+unfolding changeFault fault firstFault placeOf
+after-change nothing k (load b j) one = leaves-map (λ h. deskOf h k) (readFault b j) nothing (table (tableOfRater b j))
+after-change (table t) k (load b j) one = refl
+after-change h nothing (load b j) two = leaves-map (λ k. deskOf h k) (readFault b j) nothing (table (tableOfRater b j))
+after-change h (table t) (load b j) two = refl
+after-change nothing k clear one = refl
+after-change (table t) k clear one = refl
+after-change h nothing clear two = refl
+after-change h (table t) clear two = refl
+after-change h k c (neither {i} m n e) = rw (e, ne-eqb i 1 m, ne-eqb i 2 n)
+
+after-call : (h k : Held) (c : Call) → after (deskOf h k) c ≡ deskOf (heldAfter 1 h c) (heldAfter 2 k c)
+after-call h k (ask i q) = refl
+after-call h k compare = refl
+after-call h k (fill i f out) = refl
+after-call h k (write out) = refl
+after-call h k (change i c) = after-change h k c (number i)
+
+after-calls : (h k : Held) (calls : List Call) → deskFrom (deskOf h k) calls ≡ deskOf (heldFrom 1 h calls) (heldFrom 2 k calls)
+unfolding deskFrom heldFrom
+after-calls h k [] = refl
+after-calls h k (c ∷ calls) = rw (after-call h k c) (after-calls (heldAfter 1 h c) (heldAfter 2 k c) calls)
+
+pub places-hold : (calls : List Call) → deskAfter calls ≡ deskOf (held 1 calls) (held 2 calls)
+places-hold calls = after-calls nothing nothing calls
+
+-- What a place holds is sound.
+
+abbrev SoundHeld : Held → Type 0
+SoundHeld nothing = Unit {0}
+SoundHeld (table t) = Sound t
+
+filled-sound : (h : Held) (b : List ℕ) (j : ℕ) → SoundHeld h → SoundHeld (filled h b j)
+filled-sound nothing b j s = by-fault SoundHeld (readFault b j) (λ e. read-sound b j e) (λ _. tt)
+filled-sound (table t) b j s = s
+
+then-sound : (h : Held) (c : Change) → SoundHeld h → SoundHeld (heldThen h c)
+then-sound h (load b j) s = filled-sound h b j s
+then-sound h clear s = tt
+
+held-sound : (i : ℕ) (h : Held) (c : Call) → SoundHeld h → SoundHeld (heldAfter i h c)
+held-sound i h (ask k q) s = s
+held-sound i h compare s = s
+held-sound i h (fill k f out) s = s
+held-sound i h (write out) s = s
+held-sound i h (change k c) s = by-test SoundHeld (eqb k i) (λ _. then-sound h c s) (λ _. s)
+
+calls-sound : (i : ℕ) (h : Held) (calls : List Call) → SoundHeld h → SoundHeld (heldFrom i h calls)
+unfolding heldFrom
+calls-sound i h [] s = s
+calls-sound i h (c ∷ calls) s = calls-sound i (heldAfter i h c) calls (held-sound i h c s)
+
+pub tables-sound : (calls : List Call) (i : ℕ) (t : Table) → held i calls ≡ table t → Sound t
+tables-sound calls i t e = rw e at (calls-sound i nothing calls tt)
+
+-- The desk is sound.
+
+place-sound : (h : Held) → SoundHeld h → SoundPlace (placed h)
+place-sound nothing s = empty
+place-sound (table t) s = holds t s
+
+pub desk-sound : (calls : List Call) → SoundDesk (deskAfter calls)
+desk-sound calls =
+    rw (places-hold calls)
+    record {
+      first = place-sound (held 1 calls) (calls-sound 1 nothing calls tt);
+      second = place-sound (held 2 calls) (calls-sound 2 nothing calls tt);
+    }

@@ -1,0 +1,6 @@
+pub mod History
+pub mod Faults
+pub mod Kept
+pub mod Accepted
+pub mod Verdicts
+pub mod Tables

@@ -1,0 +1,113 @@
+-- The worked tables, by computation.
+use Prim.Native.Nat.{_≤_, _<_}
+use mathlib.Core.Path.{_≡_, refl, sym, _∙_}
+use mathlib.Core.Bool.{Bool, true, false}
+use mathlib.Core.List.{[], _∷_}
+use native.Mathlib.Omega.{arith}
+use lib.Dec.{lit<, lit≤}
+use Rattle.table.specs.Table.{Table, survivorsIn, defaultsIn, obligorsIn}
+use Rattle.table.specs.Place.{gradesFrom, placeOf}
+use Rattle.table.proofs.Placed.{table-placed}
+use Rattle.book.specs.Bytes.{twoAt, fourAt}
+use Rattle.book.specs.Checks.{fault, firstFault}
+use Rattle.book.specs.Layout.{headChecks, raterChecks, tableChecks, tablesFaultFrom}
+use Rattle.book.specs.Rows.{gradeIn, gradesIn, rowChecks, rowsFault, totalChecks, tableFault}
+use Rattle.book.specs.Reading.{readFault}
+use Rattle.pooling.specs.Pool.{front, pool}
+use Rattle.pooling.specs.Band.{bandFrom}
+use Rattle.pooling.specs.Numbers.{gradesOf, numbersOf}
+use Rattle.pooling.specs.Regression.{ratesIn}
+use Rattle.cutoff.specs.Best.{best}
+use Rattle.cutoff.specs.Cutoff.{turnedAway, cost, cheapestOf}
+use Rattle.cutoff.specs.Verdict.{all, callsFirst, callsSecond, neverDearer, DearerAt, IsVerdict}
+use Rattle.cutoff.specs.declared.Price.{Price}
+use Rattle.cutoff.specs.declared.Verdict.{Verdict}
+use Rattle.cutoff.specs.declared.Verdict.the-variants.{Equal, First, Second, Crossing}
+use Rattle.cutoff.proofs.Cost.{cheapestCost, cheapest-is, is-cheapest}
+use Rattle.measures.specs.Pairs.{concordant, discordant, tied}
+use Rattle.measures.specs.Measures.{measuresOf}
+use Rattle.calls.specs.Answers.{Answer, accepted, refused}
+use Rattle.calls.specs.Calls.{load, compareFault, pairChecks}
+use Rattle.desk.specs.Calls.{change}
+use Rattle.demands.specs.History.{heldFrom, held, table}
+use Rattle.demands.specs.Worked as worked
+use Rattle.demands.specs.Worked.{bookK, tableK, five, fine, coarse, worstApart, bestApart, price, Between}
+
+-- Book K, as it stands in the bytes.
+read : held 1 (change 1 (load bookK 1) ∷ []) ≡ table tableK
+unfolding heldFrom readFault headChecks raterChecks tableChecks tablesFaultFrom gradeIn gradesIn rowChecks rowsFault totalChecks tableFault fault firstFault twoAt fourAt obligorsIn
+read = refl
+
+-- Verdicts.
+
+-- an answer of the kind that calls the first, and the second, at least as good, or not
+abbrev OfKind : Bool → Bool → Answer Verdict → Type 0
+OfKind true true r = r ≡ accepted Equal
+OfKind true false r = (p : Price) × (r ≡ accepted (First p))
+OfKind false true r = (p : Price) × (r ≡ accepted (Second p))
+OfKind false false r = (p q : Price) × (r ≡ accepted (Crossing p q))
+
+kind-of : (v : Verdict) → OfKind (callsFirst v) (callsSecond v) (accepted v)
+kind-of Equal = refl
+kind-of (First p) = (p, refl)
+kind-of (Second p) = (p, refl)
+kind-of (Crossing p q) = (p, q, refl)
+
+module _ (t₁ t₂ : Table) (e : compareFault (placeOf t₁) (placeOf t₂) ≡ 0) where
+  kind : (r : Answer Verdict) → Between t₁ t₂ r → OfKind (neverDearer t₁ t₂) (neverDearer t₂ t₁) r
+  kind (accepted v) c =
+      let i : IsVerdict t₁ t₂ v = simp table-placed at (c .1) in
+      rw (i .first, i .second) at (kind-of v)
+  kind (refused n) c = absurd (c .1 (sym (c .0) ∙ e))
+
+  allowed : (v : Verdict) → IsVerdict t₁ t₂ v → Between t₁ t₂ (accepted v)
+  allowed v i = (e, simp table-placed i)
+
+dearer : (t₁ t₂ : Table) (p : Price) → p .u ≤ 1_000_000 → p .v ≤ 1_000_000
+    → cheapestCost t₂ (p .u) (p .v) < cheapestCost t₁ (p .u) (p .v) → DearerAt t₁ t₂ p
+dearer t₁ t₂ p u v h = record {
+  missed = u;
+  turned-away = v;
+  more = λ c₁ c₂ i₁ i₂. omega (arith, is-cheapest t₁ (p .u) (p .v) c₁ .0 i₁, is-cheapest t₂ (p .u) (p .v) c₂ .0 i₂);
+}
+
+pub Worked : worked.Worked
+unfolding pool front bandFrom gradesOf numbersOf ratesIn defaultsIn survivorsIn obligorsIn concordant discordant tied measuresOf turnedAway cost best cheapestOf all compareFault pairChecks fault firstFault placeOf gradesFrom
+Worked = record {
+  a-read = read;
+  a-pooled = refl;
+  a-gini = refl;
+  b = refl;
+  c = refl;
+  d = refl;
+  e-pairs = (refl, refl, refl);
+  e-gini = refl;
+  e-roc = refl;
+  e-pietra = (refl, refl);
+  e-bands = refl;
+  f-gini = refl;
+  f-pietra = (refl, refl);
+  g = kind fine coarse refl;
+  g-shown = allowed fine coarse refl _ record {
+    first = refl;
+    second = refl;
+    first-dearer = λ p h. absurd h;
+    second-dearer = λ p h. rw h (dearer coarse fine (price 1 1) (lit≤ tt) (lit≤ tt) (lit< tt));
+  };
+  h = kind worstApart bestApart refl;
+  h-shown = allowed worstApart bestApart refl _ record {
+    first = refl;
+    second = refl;
+    first-dearer = λ p h. rw h (dearer worstApart bestApart (price 1 1) (lit≤ tt) (lit≤ tt) (lit< tt));
+    second-dearer = λ p h. rw h (dearer bestApart worstApart (price 1 3) (lit≤ tt) (lit≤ tt) (lit< tt));
+  };
+  h-first-dearer = (cheapest-is worstApart 1 1, cheapest-is bestApart 1 1);
+  h-second-dearer = (cheapest-is worstApart 1 3, cheapest-is bestApart 1 3);
+  i = kind five five refl;
+  i-shown = allowed five five refl _ record {
+    first = refl;
+    second = refl;
+    first-dearer = λ p h. absurd h;
+    second-dearer = λ p h. absurd h;
+  };
+}

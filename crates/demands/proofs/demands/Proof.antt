@@ -1,0 +1,41 @@
+-- The demands: `demands` has nothing to do but to show each of them.
+use Rattle.book.proofs.Claims as book
+use Rattle.cutoff.proofs.Claims as cutoff
+use Rattle.measures.proofs.Claims as measures
+use Rattle.demands.proofs.History.{places-hold, tables-sound, desk-sound}
+use Rattle.demands.proofs.Faults.{answered}
+use Rattle.demands.proofs.Kept.{refused-kept, written-only, others-kept}
+use Rattle.demands.proofs.Accepted.{regression-written, measured-mixed, loads-back, writes-back}
+use Rattle.demands.proofs.Verdicts.{compare-right}
+use Rattle.demands.proofs.demands.Statement.{statement}
+use Rattle.demands.proofs.demands.Tie as tie
+
+returns : tie.Need-returns
+returns c = record {
+  every-desk-is-sound = desk-sound;
+  places-hold-what-was-loaded = places-hold;
+  every-held-table-is-sound = tables-sound;
+  every-call-is-answered = answered;
+  refusals-change-nothing = refused-kept;
+  only-what-is-written-changes = written-only;
+  other-places-are-kept = others-kept;
+  books-go-both-ways = (book.ReadingIsSound, book.WrittenBookReadsBack, book.ReadBookWritesBack);
+  written-books-load-back = loads-back;
+  loaded-books-write-back = writes-back;
+  measures-are-published = (
+    measures.RocIsTheArea,
+    measures.CapIsTheArea,
+    measures.GiniIsTheDifferenceOfProbabilities,
+    measures.GiniIsTheRatioOfAreas,
+    measures.PietraIsTheLargestDistance,
+    measures.BrierIsTheMeanSquaredDifference,
+  );
+  measured-tables-are-mixed = measured-mixed;
+  pool-writes-the-regression = regression-written;
+  compare-is-right = compare-right;
+  every-table-has-one-cheapest-cost = (cutoff.CheapestIsCheapest, cutoff.CheapestCostIsUnique);
+  pooling-keeps-the-cheapest-cost = cutoff.PooledScaleCostsTheSame;
+}
+
+pub demands-spec : {M : Type 1} → statement M
+demands-spec = tie.close (tie.spec returns)

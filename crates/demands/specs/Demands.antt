@@ -1,0 +1,151 @@
+-- The customer's three demands, each sentence by a name, over all calls and all lists of calls from a fresh desk.
+-- The contract of `demands` in src/lib.rt is all of them, so that the crate is refused where one is not proved.
+use Prim.Native.Nat.{ℕ, _-_, _≤_}
+use mathlib.Core.Path.{_≡_}
+use mathlib.Core.Logic.{_⊎_}
+use mathlib.Core.List.{List, [], _∷_, _++_}
+use lib.ListN.{length, drop, take, getD}
+use Rattle.table.specs.Table.{Table, Every, Sound, defaultsIn, survivorsIn}
+use Rattle.book.specs.Bytes.{Byte}
+use Rattle.book.specs.Layout.{raters, startOf, kindAt, layoutFault}
+use Rattle.book.specs.Rows.{tablesIn}
+use Rattle.book.specs.Encode.{bookSize}
+use Rattle.book.specs.Claims as book
+use Rattle.pooling.specs.Numbers.{ratesWritten}
+use Rattle.pooling.specs.Regression.{IsRegression}
+use Rattle.cutoff.specs.Verdict.{Settles}
+use Rattle.cutoff.specs.declared.Verdict.{Verdict}
+use Rattle.cutoff.specs.Claims as cutoff
+use Rattle.measures.specs.Claims as measuring
+use Rattle.calls.specs.Answers.{Answer, accepted, refused}
+use Rattle.calls.specs.Calls.{measures, pool}
+use Rattle.desk.specs.declared.Desk.{Desk}
+use Rattle.desk.specs.Desk.{tableAt, SoundDesk}
+use Rattle.desk.specs.Calls.{Call, ask, fill, write, numberOf, after, lent, lentAfter, lentSize, loadedTables, Compares}
+use Rattle.demands.specs.History.{deskAfter, nothing, table, filled, held, placed, numbers, Keeps}
+
+-- What calls leave.
+
+-- Every desk that calls leave is as the contracts require.
+abbrev pub EveryDeskIsSound : Type 0
+EveryDeskIsSound = (calls : List Call) → SoundDesk (deskAfter calls)
+
+-- "The table in a place is that of the rater loaded there, as it stands in the book lent to that load, n taken as the kind says."
+abbrev pub PlacesHoldWhatWasLoaded : Type 0
+PlacesHoldWhatWasLoaded =
+    (calls : List Call) → deskAfter calls ≡ record { first = placed (held 1 calls); second = placed (held 2 calls) }
+
+-- It is a table as document 01 says.
+abbrev pub EveryHeldTableIsSound : Type 0
+EveryHeldTableIsSound = (calls : List Call) (i : ℕ) (t : Table) → held i calls ≡ table t → Sound t
+
+-- Demand 1.
+
+-- n is one of some numbers.
+abbrev pub OneOf : ℕ → List ℕ → Type 0
+OneOf n [] = ⊥
+OneOf n (m ∷ l) = (n ≡ m) ⊎ OneOf n l
+
+-- "Every input to any entry point ends in a result or one of its refusal numbers."
+abbrev pub EveryCallIsAnswered : Type 0
+EveryCallIsAnswered = (d : Desk) (c : Call) → (numberOf d c ≡ 0) ⊎ OneOf (numberOf d c) (numbers c)
+
+-- "A refusal leaves every buffer and the desk as they were."
+abbrev pub RefusalsChangeNothing : Type 0
+RefusalsChangeNothing = (d : Desk) (c : Call) → (numberOf d c ≡ 0 → ⊥) → (after d c ≡ d) × (lentAfter d c ≡ lent c)
+
+-- "Lent memory is changed by accepted calls only, and only where document 01 says": nothing behind the numbers that the call writes.
+abbrev pub OnlyWhatIsWrittenChanges : Type 0
+OnlyWhatIsWrittenChanges =
+    (d : Desk) (c : Call)
+    → (length (lentAfter d c) ≡ length (lent c)) × (drop (lentSize d c) (lentAfter d c) ≡ drop (lentSize d c) (lent c))
+
+-- "Load fills an empty place, clear makes a loaded one as it is on a fresh desk": the other place stays as it was.
+abbrev pub OtherPlacesAreKept : Type 0
+OtherPlacesAreKept =
+    (d : Desk) (c : Call) → (Keeps 1 c → after d c .first ≡ d .first) × (Keeps 2 c → after d c .second ≡ d .second)
+
+-- Demand 2. A sound desk is any that calls leave: `EveryDeskIsSound`.
+
+-- "Books are read and written as laid out, both ways."
+abbrev pub BooksGoBothWays : Type 0
+BooksGoBothWays = book.ReadingIsSound × book.WrittenBookReadsBack × book.ReadBookWritesBack
+
+-- "Loading rater j of a written book gives the j-th of those tables."
+abbrev pub WrittenBooksLoadBack : Type 0
+WrittenBooksLoadBack =
+    (d : Desk) → SoundDesk d → (out : List ℕ) → numberOf d (write out) ≡ 0
+    → (j : ℕ) → 1 ≤ j → j ≤ length (loadedTables d)
+    → filled nothing (take (bookSize (loadedTables d)) (lentAfter d (write out))) j ≡ table (getD (loadedTables d) (j - 1) [])
+
+-- The other way: where the loaded places hold all the tables of a book whose columns are of kind 0, write leaves the bytes of that book.
+abbrev pub LoadedBooksWriteBack : Type 0
+LoadedBooksWriteBack =
+    (b : List ℕ) → Every Byte b → layoutFault b ≡ 0 → ((j : ℕ) → 1 ≤ j → j ≤ raters b → kindAt b (startOf b j) ≡ 0)
+    → (d : Desk) → loadedTables d ≡ tablesIn b 1 (raters b) → (out : List ℕ) → numberOf d (write out) ≡ 0
+    → lentAfter d (write out) ≡ b ++ drop (length b) out
+
+-- "Curve areas, Gini, Pietra and Brier agree with their published definitions as whole-number fractions."
+abbrev pub MeasuresArePublished : Type 0
+MeasuresArePublished =
+    measuring.RocIsTheArea
+    × measuring.CapIsTheArea
+    × measuring.GiniIsTheDifferenceOfProbabilities
+    × measuring.GiniIsTheRatioOfAreas
+    × measuring.PietraIsTheLargestDistance
+    × measuring.BrierIsTheMeanSquaredDifference
+
+-- A table that measures answers for has a default and a survivor, as the definitions need.
+abbrev pub MeasuredTablesAreMixed : Type 0
+MeasuredTablesAreMixed =
+    (d : Desk) → SoundDesk d → (i : ℕ) → numberOf d (ask i measures) ≡ 0 → measuring.Mixed (tableAt d i)
+
+-- "Pooled rates are the monotone regression: of all never-falling lists of fractions that one ALONE has the smallest obligor-weighted
+-- squared error." Of the rates that an accepted pool writes.
+abbrev pub PoolWritesTheRegression : Type 0
+PoolWritesTheRegression =
+    (d : Desk) → SoundDesk d → (i : ℕ) (out : List ℕ) → numberOf d (fill i pool out) ≡ 0
+    → IsRegression (tableAt d i) (ratesWritten (length (tableAt d i)) (lentAfter d (fill i pool out)))
+
+-- Demand 3.
+
+abbrev pub SettledBy : Table → Table → Answer Verdict → Type 0
+SettledBy t₁ t₂ (accepted v) = Settles t₁ t₂ v
+SettledBy t₁ t₂ (refused n) = ⊥
+
+-- "For any list of calls from a fresh desk that leaves two raters loaded with equally many defaulted and equally many surviving
+-- obligors, at least one of each: compare calls the first at least as good EXACTLY when, for every pair of whole-number prices however
+-- high, its cheapest cutoff costs no more than the second's; otherwise it carries a pair, each price at most 1,000,000, at which the
+-- first costs more. The same for the second." Of every answer that compare's contract allows.
+abbrev pub CompareIsRight : Type 0
+CompareIsRight =
+    (calls : List Call) (t₁ t₂ : Table) → held 1 calls ≡ table t₁ → held 2 calls ≡ table t₂
+    → defaultsIn t₁ ≡ defaultsIn t₂ → survivorsIn t₁ ≡ survivorsIn t₂ → 1 ≤ defaultsIn t₁ → 1 ≤ survivorsIn t₁
+    → (r : Answer Verdict) → Compares (deskAfter calls) r → SettledBy t₁ t₂ r
+
+-- "Cheapest means every other cutoff of that table costs at least as much": every table has such a cost at every pair of prices, and one.
+abbrev pub EveryTableHasOneCheapestCost : Type 0
+EveryTableHasOneCheapestCost = cutoff.CheapestIsCheapest × cutoff.CheapestCostIsUnique
+
+-- "At every pair of prices the pooled scale of any table has the same cheapest cost as the table."
+abbrev pub PoolingKeepsTheCheapestCost : Type 0
+PoolingKeepsTheCheapestCost = cutoff.PooledScaleCostsTheSame
+
+-- All of them: what the function `demands` of this crate promises.
+pub record Demands : Type 0 where
+  pub every-desk-is-sound : EveryDeskIsSound
+  pub places-hold-what-was-loaded : PlacesHoldWhatWasLoaded
+  pub every-held-table-is-sound : EveryHeldTableIsSound
+  pub every-call-is-answered : EveryCallIsAnswered
+  pub refusals-change-nothing : RefusalsChangeNothing
+  pub only-what-is-written-changes : OnlyWhatIsWrittenChanges
+  pub other-places-are-kept : OtherPlacesAreKept
+  pub books-go-both-ways : BooksGoBothWays
+  pub written-books-load-back : WrittenBooksLoadBack
+  pub loaded-books-write-back : LoadedBooksWriteBack
+  pub measures-are-published : MeasuresArePublished
+  pub measured-tables-are-mixed : MeasuredTablesAreMixed
+  pub pool-writes-the-regression : PoolWritesTheRegression
+  pub compare-is-right : CompareIsRight
+  pub every-table-has-one-cheapest-cost : EveryTableHasOneCheapestCost
+  pub pooling-keeps-the-cheapest-cost : PoolingKeepsTheCheapestCost

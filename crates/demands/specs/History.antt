@@ -1,0 +1,90 @@
+-- Lists of calls on a fresh desk: the desk that they leave, and, told without it, which table each place then holds.
+use Prim.Native.Nat.{ℕ}
+use mathlib.Core.Path.{_≡_}
+use mathlib.Core.Bool.{cond}
+use mathlib.Core.List.{List, [], _∷_}
+use lib.Dec.{eqb}
+use Rattle.table.specs.Table.{Table}
+use Rattle.table.specs.Place.{fresh, placeOf}
+use Rattle.table.specs.declared.Place.{Place}
+use Rattle.book.specs.Rows.{tableOfRater}
+use Rattle.book.specs.Reading.{readFault}
+use Rattle.calls.specs.Answers.{leaves}
+use Rattle.calls.specs.Calls.{Question, cheapest, measures, brier, spread, Filling, pool, Change, load, clear}
+use Rattle.desk.specs.declared.Desk.{Desk}
+use Rattle.desk.specs.Desk.{freshDesk}
+use Rattle.desk.specs.Calls.{Call, ask, compare, fill, write, change, after}
+
+-- The desk.
+
+unfoldable pub deskFrom : Desk → List Call → Desk
+deskFrom d [] = d
+deskFrom d (c ∷ calls) = deskFrom (after d c) calls
+
+abbrev pub deskAfter : List Call → Desk
+deskAfter calls = deskFrom freshDesk calls
+
+-- The numbers that a call can be refused with.
+
+abbrev pub questionNumbers : Question → List ℕ
+questionNumbers (cheapest u v) = 22 ∷ 12 ∷ []
+questionNumbers measures = 22 ∷ 23 ∷ 24 ∷ []
+questionNumbers brier = 22 ∷ []
+questionNumbers spread = 22 ∷ []
+
+abbrev pub fillNumbers : Filling → List ℕ
+fillNumbers pool = 22 ∷ 13 ∷ []
+
+abbrev pub changeNumbers : Change → List ℕ
+changeNumbers (load book rater) = 21 ∷ 2 ∷ 3 ∷ 4 ∷ 5 ∷ 6 ∷ 7 ∷ 8 ∷ 9 ∷ 10 ∷ 11 ∷ []
+changeNumbers clear = 22 ∷ []
+
+abbrev pub numbers : Call → List ℕ
+numbers (ask i q) = 1 ∷ questionNumbers q
+numbers compare = 22 ∷ 23 ∷ 24 ∷ 25 ∷ []
+numbers (fill i f out) = 1 ∷ fillNumbers f
+numbers (write out) = 22 ∷ 13 ∷ []
+numbers (change i c) = 1 ∷ changeNumbers c
+
+-- The call does not change place i.
+abbrev pub Keeps : ℕ → Call → Type 0
+Keeps i (ask k q) = Unit {0}
+Keeps i compare = Unit {0}
+Keeps i (fill k f out) = Unit {0}
+Keeps i (write out) = Unit {0}
+Keeps i (change k c) = k ≡ i → ⊥
+
+-- What a place holds, told by the books alone.
+pub data Held : Type 0 where
+  nothing : Held
+  table : Table → Held
+
+-- after a load into it: "load fills an empty place" with the table of the rater as it stands in the bytes, n taken as the kind says
+abbrev pub filled : Held → List ℕ → ℕ → Held
+filled nothing book rater = leaves (readFault book rater) nothing (table (tableOfRater book rater))
+filled (table t) book rater = table t
+
+-- after a change of it
+abbrev pub heldThen : Held → Change → Held
+heldThen h (load book rater) = filled h book rater
+heldThen h clear = nothing
+
+-- place i after one more call
+abbrev pub heldAfter : ℕ → Held → Call → Held
+heldAfter i h (ask k q) = h
+heldAfter i h compare = h
+heldAfter i h (fill k f out) = h
+heldAfter i h (write out) = h
+heldAfter i h (change k c) = cond (eqb k i) (heldThen h c) h
+
+unfoldable pub heldFrom : ℕ → Held → List Call → Held
+heldFrom i h [] = h
+heldFrom i h (c ∷ calls) = heldFrom i (heldAfter i h c) calls
+
+abbrev pub held : ℕ → List Call → Held
+held i calls = heldFrom i nothing calls
+
+-- the place that holds it
+abbrev pub placed : Held → Place
+placed nothing = fresh
+placed (table t) = placeOf t

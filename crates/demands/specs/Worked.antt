@@ -1,0 +1,99 @@
+-- The worked tables of document 01 that bear a star, as rows of one theorem about the definitions.
+use Prim.Native.Nat.{ℕ}
+use mathlib.Core.Path.{_≡_}
+use mathlib.Core.List.{List, [], _∷_}
+use lib.IntN.{pos, negsuc}
+use Rattle.table.specs.Table.{Table, Grade}
+use Rattle.table.specs.Place.{placeOf}
+use Rattle.pooling.specs.Fraction.{ratio}
+use Rattle.pooling.specs.Numbers.{pooledInto}
+use Rattle.pooling.specs.Regression.{pooledRates}
+use Rattle.cutoff.specs.Cutoff.{IsCheapest}
+use Rattle.cutoff.specs.declared.Price.{Price}
+use Rattle.cutoff.specs.declared.Verdict.{Verdict}
+use Rattle.cutoff.specs.declared.Verdict.the-variants.{Equal, First, Crossing}
+use Rattle.measures.specs.Pairs.{concordant, discordant, tied}
+use Rattle.measures.specs.Measures.{measuresOf}
+use Rattle.calls.specs.Answers.{Answer, accepted}
+use Rattle.calls.specs.Calls.{load, Compared}
+use Rattle.desk.specs.Calls.{change}
+use Rattle.demands.specs.History.{held, table}
+
+-- "Rows are (n, d)": what a grade announces plays no part, save in book K.
+abbrev pub row : ℕ → ℕ → Grade
+row n d = record { obligors = n; defaults = d; announced = 0 }
+
+-- "Book K: R 1, length 46, offset 6, 3 grades, kind 0, .. announced 100000, 150000, 200000."
+abbrev pub bookK : List ℕ
+bookK =
+    1 ∷ 0 ∷ 46 ∷ 0 ∷ 6 ∷ 0 ∷ 3 ∷ 0 ∷ 0 ∷ 0
+    ∷ 10 ∷ 0 ∷ 0 ∷ 0 ∷ 2 ∷ 0 ∷ 0 ∷ 0 ∷ 160 ∷ 134 ∷ 1 ∷ 0
+    ∷ 10 ∷ 0 ∷ 0 ∷ 0 ∷ 1 ∷ 0 ∷ 0 ∷ 0 ∷ 240 ∷ 73 ∷ 2 ∷ 0
+    ∷ 20 ∷ 0 ∷ 0 ∷ 0 ∷ 4 ∷ 0 ∷ 0 ∷ 0 ∷ 64 ∷ 13 ∷ 3 ∷ 0
+    ∷ []
+
+abbrev pub tableK : Table
+tableK =
+    record { obligors = 10; defaults = 2; announced = 100_000 }
+    ∷ record { obligors = 10; defaults = 1; announced = 150_000 }
+    ∷ record { obligors = 20; defaults = 4; announced = 200_000 }
+    ∷ []
+
+-- the table of document 002
+abbrev pub five : Table
+five = row 30 2 ∷ row 18 4 ∷ row 15 10 ∷ row 16 14 ∷ row 21 20 ∷ []
+
+-- a scale that is upside down
+abbrev pub reversed : Table
+reversed = row 2 2 ∷ row 2 0 ∷ []
+
+-- three grades, and two over the same obligors
+abbrev pub fine : Table
+fine = row 2 0 ∷ row 2 1 ∷ row 2 2 ∷ []
+
+abbrev pub coarse : Table
+coarse = row 3 1 ∷ row 3 2 ∷ []
+
+-- two scales that cross: one tells the worst obligor apart, one the best two
+abbrev pub worstApart : Table
+worstApart = row 5 2 ∷ row 1 1 ∷ []
+
+abbrev pub bestApart : Table
+bestApart = row 2 0 ∷ row 4 3 ∷ []
+
+abbrev pub price : ℕ → ℕ → Price
+price u v = record { u = u; v = v }
+
+-- What compare may answer where the first place holds t₁ and the second t₂.
+abbrev pub Between : Table → Table → Answer Verdict → Type 0
+Between t₁ t₂ r = Compared (placeOf t₁) (placeOf t₂) r
+
+pub record Worked : Type 0 where
+  -- K pools as printed.
+  pub a-read : held 1 (change 1 (load bookK 1) ∷ []) ≡ table tableK
+  pub a-pooled : pooledInto tableK [] ≡ 3 ∷ 20 ∷ 11 ∷ 3 ∷ 20 ∷ 11 ∷ 4 ∷ 20 ∷ 11 ∷ []
+  pub a-gini : measuresOf tableK .gini ≡ record { numerator = pos 10; denominator = 231 }
+  -- 6/30 in both; 8/30 in all three; 19/100
+  pub b : pooledRates (row 10 2 ∷ row 20 4 ∷ []) ≡ ratio 6 30 ∷ ratio 6 30 ∷ []
+  pub c : pooledRates (row 10 3 ∷ row 10 4 ∷ row 10 1 ∷ []) ≡ ratio 8 30 ∷ ratio 8 30 ∷ ratio 8 30 ∷ []
+  pub d : pooledRates (row 90 18 ∷ row 10 1 ∷ []) ≡ ratio 19 100 ∷ ratio 19 100 ∷ []
+  -- 002
+  pub e-pairs : (concordant five ≡ 2170) × (tied five ≡ 210) × (discordant five ≡ 120)
+  pub e-gini : measuresOf five .gini ≡ record { numerator = pos 2050; denominator = 2500 }
+  pub e-roc : measuresOf five .roc ≡ record { numerator = 4550; denominator = 5000 }
+  pub e-pietra : (measuresOf five .pietra ≡ record { numerator = pos 1800; denominator = 2500 }) × (measuresOf five .cutoff ≡ 3)
+  pub e-bands : pooledInto five [] ≡ 2 ∷ 30 ∷ 10 ∷ 4 ∷ 18 ∷ 12 ∷ 10 ∷ 15 ∷ 13 ∷ 14 ∷ 16 ∷ 14 ∷ 20 ∷ 21 ∷ 14 ∷ []
+  -- Gini -4/4, Pietra 0/4 at g 0
+  pub f-gini : measuresOf reversed .gini ≡ record { numerator = negsuc 3; denominator = 4 }
+  pub f-pietra : (measuresOf reversed .pietra ≡ record { numerator = pos 0; denominator = 4 }) × (measuresOf reversed .cutoff ≡ 0)
+  -- First, and no other answer
+  pub g : (r : Answer Verdict) → Between fine coarse r → (p : Price) × (r ≡ accepted (First p))
+  pub g-shown : Between fine coarse (accepted (First (price 1 1)))
+  -- Crossing, as two pairs of prices show
+  pub h : (r : Answer Verdict) → Between worstApart bestApart r → (p q : Price) × (r ≡ accepted (Crossing p q))
+  pub h-shown : Between worstApart bestApart (accepted (Crossing (price 1 1) (price 1 3)))
+  pub h-first-dearer : IsCheapest worstApart 1 1 2 × IsCheapest bestApart 1 1 1
+  pub h-second-dearer : IsCheapest worstApart 1 3 2 × IsCheapest bestApart 1 3 3
+  -- Equal
+  pub i : (r : Answer Verdict) → Between five five r → r ≡ accepted Equal
+  pub i-shown : Between five five (accepted Equal)
