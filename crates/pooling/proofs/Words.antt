@@ -80,6 +80,8 @@ pub record Between (bs : List Block) (start at : ℕ) : Type 0 where
 pub record Last (w : List ℕ) (bs : List Block) (start at k : ℕ) : Type 0 where
   pub some : 0 < k
   pub few : k - 1 < length bs
+  pub high : 3 ≤ at
+  pub room : at - 3 + 3 ≤ length w
   pub same : at - 3 ≡ start + 3 * (k - 1)
   pub here : blockAt w (at - 3) ≡ nth bs (k - 1)
   pub from : drop (k - 1) bs ≡ nth bs (k - 1) ∷ drop k bs
@@ -93,11 +95,13 @@ last w bs start at e b h =
     let few : k < length bs = omega (arith, b .few) in
     let same : at - 3 ≡ start + 3 * k = omega (arith, b .same) in
     let from = nth-from bs k few in
-    let words : drop (at - 3) w ≡ blockWords (nth bs k ∷ drop (k + 1) bs) =
-    rw same (sym (drop-drop (3 * k) start w) ∙ ap (λ (l : List ℕ). drop (3 * k) l) e ∙ words-drop bs k ∙ ap blockWords from) in
+    let all = sym (drop-drop (3 * k) start w) ∙ ap (λ (l : List ℕ). drop (3 * k) l) e ∙ words-drop bs k in
+    let words : drop (at - 3) w ≡ blockWords (nth bs k ∷ drop (k + 1) bs) = rw same (all ∙ ap blockWords from) in
     record {
       some = omega arith;
       few = few;
+      high = omega (arith, b .same);
+      room = omega (arith, b .same, count-words w start bs e);
       same = same;
       here = block-first w (at - 3) (nth bs k) (drop (k + 1) bs) words;
       from = rw i at from;

@@ -122,7 +122,8 @@ abbrev head : tie.At-loop Inv-loop μ-loop → tie.Start Inv-loop μ-loop
 head c = c .before .before .before .before .before .before
 
 -- What is known of the last grade.
-worst : (c : tie.After-grades-of Inv-loop μ-loop) → (1 ≤ c .grades-of .result) × (c .grades-of .result ≤ 40) × (length (now (start c .args .place)) ≡ 122)
+worst : (c : tie.After-grades-of Inv-loop μ-loop)
+    → (1 ≤ c .grades-of .result) × (c .grades-of .result ≤ 40) × (length (now (start c .args .place)) ≡ 122)
 worst c =
     let h = start c .pre .0 in
     let n = sized h in
@@ -150,8 +151,8 @@ loop-again : tie.Need-loop-again Inv-loop μ-loop
 loop-again c =
     let w = c .before .before .before in
     let a = w .before .before .before .before in
-    rw (c .joined .ensures)
-    (joins (a .loop .inv) (w .before .before .before .if1 .taken) _ (w .block-at .ensures) (sym (c .before .before .is-below .ensures) ∙ not-true _ (c .before .if2 .taken)))
+    let not-below = sym (c .before .before .is-below .ensures) ∙ not-true _ (c .before .if2 .taken) in
+    rw (c .joined .ensures) (joins (a .loop .inv) (w .before .before .before .if1 .taken) _ (w .block-at .ensures) not-below)
 
 -- Where no join is made, there is no other block, or the rate is below that of the next.
 kept : (c : tie.Joined1 Inv-loop μ-loop) → Stays (c .before .loop .inv)
@@ -167,14 +168,15 @@ returns c =
     let a = c .before .before .before .before in
     let put = c .before .store-block .ensures in
     let all = suffix-all (placeIn (now (head a .args .place))) (a .loop .i) (c .if3 .taken) in
-    (((words (a .loop .inv) _ put ∙ ap blockWords (kept (c .before .before .before) ∙ ap pool all)), omega arith), full (a .loop .inv) _ put)
+    ((words (a .loop .inv) _ put ∙ ap blockWords (kept (c .before .before .before) ∙ ap pool all), omega arith), full (a .loop .inv) _ put)
 
 loop-again-2 : tie.Need-loop-again-2 Inv-loop μ-loop
 loop-again-2 c =
     let a = c .before .before .before .before .before .before .before in
     let t = turn _ (a .loop .i) (head a .pre .0) (omega arith) (omega (arith, a .loop .inv .inside)) in
+    let put = c .before .before .before .before .store-block .ensures in
     rw (c .of-grade2 .ensures, read t)
-    (next-grade (a .loop .inv) _ (c .before .before .before .before .store-block .ensures) (t .down) (omega arith) (kept (c .before .before .before .before .before .before)))
+    (next-grade (a .loop .inv) _ put (t .down) (omega arith) (kept (c .before .before .before .before .before .before)))
 
 pub blocks-of-spec : {M : Type 1} → statement M
 blocks-of-spec =

@@ -6,6 +6,8 @@ use mathlib.Core.List.{List, _∷_, _++_}
 use native.Mathlib.Omega.{arith}
 use borrow.Author.Needs.{needs}
 use denote.Ref.{now}
+use mir.Syntax.{w64}
+use mir.Val.{Fits}
 use lib.ListN.{length, take, drop, take-append-drop, drop-of-length-le}
 use Rattle.table.specs.Words.{placeIn, tableIn}
 use Rattle.table.proofs.Suffix.{length-grades}
@@ -24,7 +26,6 @@ use Rattle.pooling.proofs.pool.Tie as tie
 record Written (bs : List Block) (items : List ℕ) (start end₀ : ℕ) (out₀ out : List ℕ) (end at band : ℕ) : Type 0 where
   pub held : drop start items ≡ blockWords bs
   pub full : length items ≡ 120
-  pub at-most : at ≤ 120
   pub between : Between bs start at
   pub rising : Rising bs
   pub all : 3 * sumOf bs .grades ≡ end₀
@@ -74,14 +75,25 @@ at : (c : tie.In-loop Inv-loop μ-loop)
 at c = let inv = c .before .loop .inv in turn _ _ _ _ (inv .held) (inv .rising) (inv .between) (c .loop-test .taken)
 
 -- The block that was read.
-is : (c : tie.After-block-at Inv-loop μ-loop) → c .block-at .result ≡ nth (blocks (c .before .before)) (c .before .before .before .loop .inv .between .count - 1)
+is : (c : tie.After-block-at Inv-loop μ-loop)
+    → c .block-at .result ≡ nth (blocks (c .before .before)) (c .before .before .before .loop .inv .between .count - 1)
 is c = c .block-at .ensures ∙ at (c .before .before) .block .here
 
--- It has no more grades than are left.
-fewer : (c : tie.After-block-at Inv-loop μ-loop) → 3 * c .block-at .result .grades ≤ c .before .before .before .loop .end
-fewer c =
-    let inv = c .before .before .before .loop .inv in
-    omega (arith, inv .all, inv .count, at (c .before .before) .fewer, ap (λ x. x .grades) (is c))
+-- It has no more grades than are left, and there is room for their numbers.
+module _ (c : tie.After-block-at Inv-loop μ-loop) where
+  abbrev turned : tie.At-loop Inv-loop μ-loop
+  turned = c .before .before .before
+
+  fewer : 3 * c .block-at .result .grades ≤ turned .loop .end
+  fewer =
+      let inv = turned .loop .inv in
+      omega (arith, inv .all, inv .count, at (c .before .before) .fewer, ap (λ x. x .grades) (is c))
+
+  within : turned .loop .end ≤ length (turned .loop .out)
+  within = let inv = turned .loop .inv in omega (arith, inv .count, inv .room, inv .long)
+
+  fits : Fits w64 (3 * c .block-at .result .grades)
+  fits = let inv = turned .loop .inv in omega (arith, fewer, inv .count, inv .small)
 
 loop-holds : tie.Need-loop-holds Inv-loop μ-loop
 unfolding numbersOf sumOf
@@ -96,7 +108,6 @@ loop-holds c =
     record {
       held = r .ensures .0 .0;
       full = r .ensures .1;
-      at-most = omega arith;
       between = between;
       rising = pool-rising t;
       all = omega (arith, n, grades-count t);
@@ -120,11 +131,12 @@ loop-again c =
     let o = now (a .before .before .before .before .before .before .args .out) in
     let x = r .block-at .result in
     let split : drop (k - 1) (blocks (r .before .before)) ≡ x ∷ drop k (blocks (r .before .before)) = rw (is r) (f .block .from) in
-    let more = put-more o _ (a .loop .out) (a .loop .end) (a .loop .end - 3 * x .grades) (gradesOf x (x .grades)) (a .loop .inv .same) (omega arith) (omega (arith, a .loop .inv .count, a .loop .inv .room)) in
+    let end = a .loop .end in
+    let short : end ≤ length o = omega (arith, a .loop .inv .count, a .loop .inv .room) in
+    let more = put-more o _ (a .loop .out) end (end - 3 * x .grades) (gradesOf x (x .grades)) (a .loop .inv .same) (omega arith) short in
     record {
       held = a .loop .inv .held;
       full = a .loop .inv .full;
-      at-most = omega (arith, a .loop .inv .at-most);
       between = record { count = k - 1; few = omega (arith, f .block .few); same = f .block .same };
       rising = a .loop .inv .rising;
       all = a .loop .inv .all;
@@ -156,13 +168,13 @@ pool-spec =
     (λ c κs. c .before .before .before .before .pre .0 .long)
     (λ c. omega (arith, c .grades-of .ensures, few-in (c .before .before .before .before .before .pre .0)))
     loop-holds
-    (λ c. let f = at c .block in omega (arith, f .same, f .some, c .before .loop .inv .between .same))
+    (λ c. at c .block .high)
     (λ c. sym (c .before .before .loop .inv .full))
-    (λ c κs. let f = at (c .before) .block in omega (arith, f .same, f .some, c .before .before .loop .inv .between .same, c .before .before .loop .inv .full, c .before .before .loop .inv .at-most))
+    (λ c κs. at (c .before) .block .room)
     (λ c κs. let inv = c .before .before .before .loop .inv in (rw (is c) (inv .most (c .before .before .loop-test .taken)), inv .few))
-    (λ c κs. (c .before .band .ensures, (fewer (c .before .before), let inv = c .before .before .before .before .before .loop .inv in omega (arith, inv .count, inv .room, inv .long))))
+    (λ c κs. (c .before .band .ensures, (fewer (c .before .before), within (c .before .before))))
     (λ c. search needs)
-    (λ c. let r = c .before .before .before .before .before .before in let inv = r .before .before .before .loop .inv in omega (arith, fewer r, inv .count, inv .small))
+    (λ c. fits (c .before .before .before .before .before .before))
     (λ c. fewer (c .before .before .before .before .before .before))
     (λ c. omega arith)
     loop-again
