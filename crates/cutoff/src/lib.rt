@@ -10,9 +10,8 @@ ghost use Rattle.cutoff.specs.Cutoff.{cheapestOf};
 ghost use Rattle.cutoff.specs.Verdict.{breakEven};
 ghost use Rattle.cutoff.specs.Sweep.{scaleIn, Sweepable, Finds};
 use pooling::Block;
-use pooling::Blocks;
+use pooling::block_at;
 use table::DEFAULTS;
-use table::GRADES;
 use table::Obligors;
 use table::Survivors;
 use table::grades_of;
@@ -124,13 +123,13 @@ enum Dearer {
 // cost no more than their defaults. The prices of a better block turn more of them away, so j only falls.
 // Both scales have D defaults. So u (D - y) + v x is more for the first exactly if u y + v x is less with the first's y and the
 // second's x than with the second's y and the first's x.
-fn where_dearer(first: Blocks, second: Blocks) -> Dearer
-    requires scales { ⌜ Sweepable first × Sweepable second ⌝ }
-    requires defaults { ⌜ defaultsIn (scaleIn first) ≡ defaultsIn (scaleIn second) ⌝ }
-    ensures { λ r. ⌜ Finds (scaleIn first) (scaleIn second) r ⌝ }
+fn where_dearer(first: &[u32], second: &[u32]) -> Dearer
+    requires scales { ⌜ Sweepable (now first) × Sweepable (now second) ⌝ }
+    requires defaults { ⌜ defaultsIn (scaleIn (now first)) ≡ defaultsIn (scaleIn (now second)) ⌝ }
+    ensures { λ r. ⌜ Finds (scaleIn (now (first .entry))) (scaleIn (now (second .entry))) r ⌝ }
 {
-    let mut i = GRADES;
-    let mut j = GRADES;
+    let mut i = first.len();
+    let mut j = second.len();
     let mut ours = Cut {
         caught: 0,
         lost: Survivors(0),
@@ -139,13 +138,13 @@ fn where_dearer(first: Blocks, second: Blocks) -> Dearer
         caught: 0,
         lost: Survivors(0),
     };
-    while first.top < i {
-        let block = first.items[i - 1];
+    while 0 < i {
+        let block = block_at(first, i - 3);
         let price = Price::break_even(block);
-        if second.top < j {
-            let next = second.items[j - 1];
+        if 0 < j {
+            let next = block_at(second, j - 3);
             if price.turns_away(next) {
-                j -= 1;
+                j -= 3;
                 theirs = theirs.with(next);
                 continue;
             }
@@ -153,7 +152,7 @@ fn where_dearer(first: Blocks, second: Blocks) -> Dearer
         if price.cost(ours.caught, theirs.lost) < price.cost(theirs.caught, ours.lost) {
             return Dearer::At(price);
         }
-        i -= 1;
+        i -= 3;
         ours = ours.with(block);
     }
     Dearer::Nowhere
