@@ -10,6 +10,6 @@ pub mod LeastSquares
 pub mod Determined
 pub mod Bands
 pub mod Written
-pub mod Items
+pub mod Words
 pub mod Backwards
 pub mod Claims

@@ -1,16 +1,15 @@
 // Pooling: the blocks of a table, and the three numbers that stand for each of its grades.
 ghost use Prim.Native.Nat.{_+_, _-_, _*_, _≤_, _<_};
 ghost use mathlib.Core.Path.{_≡_};
-ghost use mathlib.Core.List.{_++_};
+ghost use mathlib.Core.List.{_∷_, _++_};
 ghost use lib.ListN.{length, take, drop};
-ghost use Rattle.table.specs.Table.{Sound};
-ghost use Rattle.table.specs.Place.{tableOf, withColumns};
+ghost use Rattle.table.specs.Words.{tableIn, HoldsTable};
 ghost use Rattle.table.specs.Counts.{largest};
-ghost use Rattle.pooling.specs.Pool.{blocksIn, join, pool, rateBelow};
+ghost use Rattle.pooling.specs.Pool.{blockWords, blockAt, join, pool, rateBelow};
 ghost use Rattle.pooling.specs.Band.{bandLimit, bandOf};
 ghost use Rattle.pooling.specs.Numbers.{gradesOf, pooledInto};
-use table::GRADES;
-use table::Place;
+use table::DEFAULTS;
+use table::grades_of;
 
 // A run of neighbouring grades: how many, their obligors and their defaults.
 pub struct Block {
@@ -18,13 +17,6 @@ pub struct Block {
     pub obligors: u32,
     pub defaults: u32,
 }
-
-// A block of no grades. An array of it is all zeros, which compile to less than copies of a block of the table.
-const NO_GRADES: Block = Block {
-    grades: 0,
-    obligors: 0,
-    defaults: 0,
-};
 
 // The limit of a band, in ppm.
 fn band_limit(b: u32) -> u64
@@ -86,57 +78,59 @@ impl Block {
     }
 }
 
-// The blocks of a table, best first: those of `items` from `top` on. What stands before `top` means nothing.
-pub struct Blocks {
-    pub items: [Block; GRADES],
-    pub top: usize,
-}
+// The most numbers that the blocks of a table take: three for each grade.
+pub const BLOCKS: usize = 120;
 
-// The blocks of the table with these columns. From the worst grade to the best, each grade is a block that takes in the block after it
-// for as long as its rate is not below that one's, and is then stored before the rest.
-pub fn blocks_in<'a>(
-    obligors: &'a [u32],
-    defaults: &'a [u32],
-    announced: &'a [u32],
-    grades: usize,
-) -> Blocks
-    requires long { ⌜ (grades ≤ length (now obligors)) × (grades ≤ length (now defaults)) ⌝ }
-    requires sound { ⌜ Sound (tableOf (withColumns (now obligors) (now defaults) (now announced) grades)) ⌝ }
-    ensures { λ r. ⌜ (blocksIn r ≡ pool (tableOf (withColumns (now (obligors .entry)) (now (defaults .entry)) (now (announced .entry)) grades))) × (r .top < 40) ⌝ }
+// The block in the three numbers from `at` on.
+pub fn block_at(words: &[u32], at: usize) -> Block
+    requires { ⌜ at + 3 ≤ length (now words) ⌝ }
+    ensures { λ r. ⌜ r ≡ blockAt (now (words .entry)) at ⌝ }
 {
-    let mut i = grades - 1;
-    let mut b = Block::of_grade(obligors[i], defaults[i]);
-    let mut r = Blocks {
-        items: [NO_GRADES; GRADES],
-        top: 0,
-    };
-    let mut top = GRADES;
-    loop {
-        if top < GRADES {
-            let next = r.items[top];
-            if !b.is_below(next) {
-                b = b.joined(next);
-                top += 1;
-                continue;
-            }
-        }
-        top -= 1;
-        r.items[top] = b;
-        if i == 0 {
-            r.top = top;
-            return r;
-        }
-        i -= 1;
-        b = Block::of_grade(obligors[i], defaults[i]);
+    Block {
+        grades: words[at],
+        obligors: words[at + 1],
+        defaults: words[at + 2],
     }
 }
 
-// The blocks of the table in a place.
-pub fn blocks_of(p: Place) -> Blocks
-    requires { ⌜ Sound (tableOf p) ⌝ }
-    ensures { λ r. ⌜ (blocksIn r ≡ pool (tableOf p)) × (r .top < 40) ⌝ }
+// Stores a block in the three numbers from `at` on.
+fn store_block(items: &mut [u32; BLOCKS], at: usize, b: Block)
+    requires { ⌜ (length (now items) ≡ 120) × (at + 3 ≤ 120) ⌝ }
+    ensures { λ _. ⌜ drop at (now (items .exit)) ≡ b .grades ∷ b .obligors ∷ b .defaults ∷ drop (at + 3) (now (items .entry)) ⌝ }
 {
-    blocks_in(&p.obligors, &p.defaults, &p.announced, p.grades)
+    items[at + 2] = b.defaults;
+    items[at + 1] = b.obligors;
+    items[at] = b.grades;
+}
+
+// Stores the blocks of the table in a lent place at the end of `items`, and answers where they start. What stands before means nothing.
+// From the worst grade to the best, each grade is a block that takes in the block after it for as long as its rate is not below that
+// one's, and is then stored before the rest.
+pub fn blocks_of(place: &[u32], items: &mut [u32; BLOCKS]) -> usize
+    requires { ⌜ HoldsTable (now place) × (length (now items) ≡ 120) ⌝ }
+    ensures blocks { λ r. ⌜ (drop r (now (items .exit)) ≡ blockWords (pool (tableIn (now (place .entry))))) × (r < 120) ⌝ }
+    ensures length { λ _. ⌜ length (now (items .exit)) ≡ 120 ⌝ }
+{
+    let mut i = grades_of(place) - 1;
+    let mut b = Block::of_grade(place[i], place[DEFAULTS + i]);
+    let mut at = BLOCKS;
+    loop {
+        if at < BLOCKS {
+            let next = block_at(&*items, at);
+            if !b.is_below(next) {
+                b = b.joined(next);
+                at += 3;
+                continue;
+            }
+        }
+        at -= 3;
+        store_block(&mut *items, at, b);
+        if i == 0 {
+            return at;
+        }
+        i -= 1;
+        b = Block::of_grade(place[i], place[DEFAULTS + i]);
+    }
 }
 
 // Writes the three numbers of a block, once for each of its grades, so that they end before index `end`.
@@ -156,38 +150,22 @@ fn write_block(x: Block, band: u32, end: usize, out: &mut [u32])
     }
 }
 
-// Pools the table with these columns: for each grade its block's defaults, obligors and band. The further numbers of `out` are kept.
+// Pools the table in a lent place: for each grade its block's defaults, obligors and band. The further numbers of `out` are kept.
 // From the worst block to the best the rates fall, so no band is above that of the block before.
-pub fn pool_in<'a>(
-    obligors: &'a [u32],
-    defaults: &'a [u32],
-    announced: &'a [u32],
-    grades: usize,
-    out: &mut [u32],
-)
-    requires long { ⌜ (grades ≤ length (now obligors)) × (grades ≤ length (now defaults)) ⌝ }
-    requires sound { ⌜ Sound (tableOf (withColumns (now obligors) (now defaults) (now announced) grades)) ⌝ }
-    requires room { ⌜ 3 * grades ≤ length (now out) ⌝ }
-    ensures { λ _. ⌜ now (out .exit) ≡ pooledInto (tableOf (withColumns (now (obligors .entry)) (now (defaults .entry)) (now (announced .entry)) grades)) (now (out .entry)) ⌝ }
+pub fn pool(place: &[u32], out: &mut [u32])
+    requires { ⌜ HoldsTable (now place) × (3 * length (tableIn (now place)) ≤ length (now out)) ⌝ }
+    ensures { λ _. ⌜ now (out .exit) ≡ pooledInto (tableIn (now (place .entry))) (now (out .entry)) ⌝ }
 {
-    let mut end = 3 * grades;
-    let blocks = blocks_in(obligors, defaults, announced, grades);
-    let top = blocks.top;
-    let mut k = GRADES;
+    let mut items = [0; BLOCKS];
+    let start = blocks_of(place, &mut items);
+    let mut end = 3 * grades_of(place);
+    let mut at = BLOCKS;
     let mut band: u32 = 14;
-    while top < k {
-        k -= 1;
-        let x = blocks.items[k];
+    while start < at {
+        at -= 3;
+        let x = block_at(&items, at);
         band = x.band(band);
         write_block(x, band, end, &mut *out);
         end -= 3 * (x.grades as usize);
     }
-}
-
-// Pools the table in a place.
-pub fn pool(p: Place, out: &mut [u32])
-    requires { ⌜ Sound (tableOf p) × (3 * p .grades ≤ length (now out)) ⌝ }
-    ensures { λ _. ⌜ now (out .exit) ≡ pooledInto (tableOf p) (now (out .entry)) ⌝ }
-{
-    pool_in(&p.obligors, &p.defaults, &p.announced, p.grades, out);
 }

@@ -1,22 +1,182 @@
--- `pool` meets its contract: it pools its columns.
-use lib.ListN.{length-map}
-use Rattle.table.proofs.Suffix.{columns-table, lends}
+-- `pool` meets its contract. The invariant: from `end` on stand the numbers of the blocks from index `at` on, and then the further ones;
+-- the band of the block before them is at most the one in hand.
+use Prim.Native.Nat.{ℕ, _+_, _-_, _*_, _≤_, _<_}
+use mathlib.Core.Path.{_≡_, refl, ap, sym, _∙_}
+use mathlib.Core.List.{List, _∷_, _++_}
+use native.Mathlib.Omega.{arith}
+use borrow.Author.Needs.{needs}
+use denote.Ref.{now}
+use mir.Syntax.{w64}
+use mir.Val.{Fits}
+use lib.ListN.{length, take, drop, take-append-drop, drop-of-length-le}
+use Rattle.table.specs.Words.{placeIn, tableIn}
+use Rattle.table.proofs.Suffix.{length-grades}
+use Rattle.table.proofs.Words.{few-in}
+use Rattle.pooling.specs.Pool.{Block, Rising, pool, blockWords}
+use Rattle.pooling.specs.Band.{bandOf}
+use Rattle.pooling.specs.Numbers.{gradesOf, numbersOf}
+use Rattle.pooling.proofs.Front.{pool-rising, rising-drop}
+use Rattle.pooling.proofs.Bands.{band-right, bands-rise}
+use Rattle.pooling.proofs.Words.{nth, nth-from, Between, Last, last, at-end}
+use Rattle.pooling.proofs.Joined.{sumOf, grades-count, grades-drop}
+use Rattle.pooling.proofs.Backwards.{put-more}
 use Rattle.pooling.proofs.pool.Statement.{statement}
 use Rattle.pooling.proofs.pool.Tie as tie
 
-pool-in-requires : tie.Need-pool-in-requires
-pool-in-requires c κs =
-    let a = c .before .before .before .before .before .before .before .before .before in
-    let l = lends (a .args .t1) (a .pre .0) (simp length-map at (a .good .0 .1 .1 .0 .1 .0 .1)) (simp length-map at (a .good .0 .1 .1 .1 .0 .1 .0 .1)) in
-    (l .0, (l .1, a .pre .1))
+record Written (bs : List Block) (items : List ℕ) (start end₀ : ℕ) (out₀ out : List ℕ) (end at band : ℕ) : Type 0 where
+  pub held : drop start items ≡ blockWords bs
+  pub full : length items ≡ 120
+  pub between : Between bs start at
+  pub rising : Rising bs
+  pub all : 3 * sumOf bs .grades ≡ end₀
+  pub small : end₀ ≤ 120
+  pub room : end₀ ≤ length out₀
+  pub long : length out ≡ length out₀
+  pub few : band ≤ 14
+  pub most : start < at → bandOf (nth bs (between .count - 1)) ≤ band
+  pub count : end + 3 * sumOf (drop (between .count) bs) .grades ≡ end₀
+  pub same : out ≡ take end out₀ ++ numbersOf (drop (between .count) bs) (drop end₀ out₀)
 
-same-length : tie.Need-same-length
-same-length c = c .before .before .pool-in .kept .1 .1 .1 .1 .0
+abbrev Inv-loop : tie.InvT-loop
+Inv-loop place out₀ items start end₀ at₀ band₀ out end at band = Written (pool (tableIn place)) items start end₀ out₀ out end at band
 
-returns : tie.Need-returns
+abbrev μ-loop : tie.MeasureT-loop
+μ-loop place out₀ items start end₀ at₀ band₀ out end at band = at
+
+-- What a turn knows of the block before index `at`, the last of k.
+record Turn (bs : List Block) (items : List ℕ) (start at k : ℕ) : Type 0 where
+  pub block : Last items bs start at k
+  pub fewer : nth bs (k - 1) .grades + sumOf (drop k bs) .grades ≤ sumOf bs .grades
+  pub lower : start < at - 3 → bandOf (nth bs (k - 1 - 1)) ≤ bandOf (nth bs (k - 1))
+
+turn : (bs : List Block) (items : List ℕ) (start at : ℕ) → drop start items ≡ blockWords bs → Rising bs → (b : Between bs start at) → start < at
+    → Turn bs items start at (b .count)
+unfolding sumOf Rising
+turn bs items start at held rising b h =
+    let k = b .count in
+    let l = last items bs start at held b h in
+    record {
+      block = l;
+      fewer = omega (arith, rw (l .from) at (grades-drop bs (k - 1)));
+      lower = λ m.
+          let e : k - 1 - 1 + 1 ≡ k - 1 = omega (arith, l .same) in
+          let before = rw (e, l .from) at (nth-from bs (k - 1 - 1) (omega (arith, l .few))) in
+          bands-rise _ _ ((rw before at (rising-drop bs (k - 1 - 1) rising)) .0);
+    }
+
+abbrev blocks : tie.In-loop Inv-loop μ-loop → List Block
+blocks c = pool (tableIn (now (c .before .before .before .before .before .before .before .args .place)))
+
+abbrev items : tie.In-loop Inv-loop μ-loop → List ℕ
+items c = c .before .before .before .blocks-of .last .1 .0
+
+at : (c : tie.In-loop Inv-loop μ-loop)
+    → Turn (blocks c) (items c) (c .before .before .before .blocks-of .result) (c .before .loop .at) (c .before .loop .inv .between .count)
+at c = let inv = c .before .loop .inv in turn _ _ _ _ (inv .held) (inv .rising) (inv .between) (c .loop-test .taken)
+
+-- The block that was read.
+is : (c : tie.After-block-at Inv-loop μ-loop)
+    → c .block-at .result ≡ nth (blocks (c .before .before)) (c .before .before .before .loop .inv .between .count - 1)
+is c = c .block-at .ensures ∙ at (c .before .before) .block .here
+
+-- It has no more grades than are left, and there is room for their numbers.
+module _ (c : tie.After-block-at Inv-loop μ-loop) where
+  abbrev turned : tie.At-loop Inv-loop μ-loop
+  turned = c .before .before .before
+
+  fewer : 3 * c .block-at .result .grades ≤ turned .loop .end
+  fewer =
+      let inv = turned .loop .inv in
+      omega (arith, inv .all, inv .count, at (c .before .before) .fewer, ap (λ x. x .grades) (is c))
+
+  within : turned .loop .end ≤ length (turned .loop .out)
+  within = let inv = turned .loop .inv in omega (arith, inv .count, inv .room, inv .long)
+
+  fits : Fits w64 (3 * c .block-at .result .grades)
+  fits = let inv = turned .loop .inv in omega (arith, fewer, inv .count, inv .small)
+
+loop-holds : tie.Need-loop-holds Inv-loop μ-loop
+unfolding numbersOf sumOf
+loop-holds c =
+    let s = c .before .before .before .before .before in
+    let w = now (s .args .place) in
+    let t = tableIn w in
+    let r = c .before .blocks-of in
+    let between = at-end (r .last .1 .0) (pool t) (r .result) 120 (r .ensures .0 .0) (omega (arith, r .ensures .0 .1)) (r .ensures .1) in
+    let n : length t ≡ c .grades-of .result = rw (c .grades-of .ensures) (length-grades (placeIn w) 0 (placeIn w .grades)) in
+    let none = drop-of-length-le (pool t) {i = length (pool t)} (omega arith) in
+    record {
+      held = r .ensures .0 .0;
+      full = r .ensures .1;
+      between = between;
+      rising = pool-rising t;
+      all = omega (arith, n, grades-count t);
+      small = omega (arith, n, s .pre .0 .sound .few);
+      room = omega (arith, n, s .pre .1);
+      long = refl;
+      few = omega arith;
+      most = λ _. omega (arith, band-right (nth (pool t) (length (pool t) - 1)) .within);
+      count = rw none (omega arith);
+      same = rw (none, take-append-drop);
+    }
+
+loop-again : tie.Need-loop-again Inv-loop μ-loop
+unfolding numbersOf sumOf
+loop-again c =
+    let r = c .before .before .before .before .before .before in
+    let f = at (r .before .before) in
+    let a = r .before .before .before in
+    let k = a .loop .inv .between .count in
+    let b = c .before .before .before .before .before .band .ensures in
+    let o = now (a .before .before .before .before .before .before .args .out) in
+    let x = r .block-at .result in
+    let split : drop (k - 1) (blocks (r .before .before)) ≡ x ∷ drop k (blocks (r .before .before)) = rw (is r) (f .block .from) in
+    let end = a .loop .end in
+    let short : end ≤ length o = omega (arith, a .loop .inv .count, a .loop .inv .room) in
+    let more = put-more o _ (a .loop .out) end (end - 3 * x .grades) (gradesOf x (x .grades)) (a .loop .inv .same) (omega arith) short in
+    record {
+      held = a .loop .inv .held;
+      full = a .loop .inv .full;
+      between = record { count = k - 1; few = omega (arith, f .block .few); same = f .block .same };
+      rising = a .loop .inv .rising;
+      all = a .loop .inv .all;
+      small = a .loop .inv .small;
+      room = a .loop .inv .room;
+      long = c .before .before .before .write-block .kept .1 .1 .1 .0 ∙ a .loop .inv .long;
+      few = omega (arith, b, band-right x .within);
+      most = λ h. rw (b, is r) (f .lower h);
+      count = rw split (omega (arith, a .loop .inv .count, fewer r));
+      same = rw split (rw more at (c .before .before .before .write-block .ensures));
+    }
+
+returns : tie.Need-returns Inv-loop μ-loop
 returns c =
-    let p = c .before .before .before .before .before .before .before .before .before .before .before .before .args .t1 in
-    rw (columns-table p) at (c .before .before .pool-in .ensures)
+    let inv = c .before .loop .inv in
+    let w = now (c .before .before .before .before .before .before .before .args .place) in
+    let none : inv .between .count ≡ 0 = omega (arith, inv .between .same) in
+    let z : c .before .loop .end ≡ 0 = omega (arith, inv .all, rw none at (inv .count)) in
+    let all : 3 * length (tableIn w) ≡ 3 * c .before .before .grades-of .result = omega (arith, inv .all, grades-count (tableIn w)) in
+    rw all (rw (none, z) at (inv .same))
 
 pub pool-spec : {M : Type 1} → statement M
-pool-spec = tie.close (tie.spec pool-in-requires same-length returns)
+pool-spec =
+    tie.close
+    (tie.spec
+    Inv-loop
+    μ-loop
+    (λ c κs. (c .before .before .before .pre .0, refl))
+    (λ c κs. c .before .before .before .before .pre .0 .long)
+    (λ c. omega (arith, c .grades-of .ensures, few-in (c .before .before .before .before .before .pre .0)))
+    loop-holds
+    (λ c. at c .block .high)
+    (λ c. sym (c .before .before .loop .inv .full))
+    (λ c κs. at (c .before) .block .room)
+    (λ c κs. let inv = c .before .before .before .loop .inv in (rw (is c) (inv .most (c .before .before .loop-test .taken)), inv .few))
+    (λ c κs. (c .before .band .ensures, (fewer (c .before .before), within (c .before .before))))
+    (λ c. search needs)
+    (λ c. fits (c .before .before .before .before .before .before))
+    (λ c. fewer (c .before .before .before .before .before .before))
+    (λ c. omega arith)
+    loop-again
+    (λ c. c .before .loop .inv .long)
+    returns)
