@@ -2,15 +2,17 @@
 ghost use Prim.Native.Nat.{_+_, _*_, _≤_};
 ghost use mathlib.Core.Path.{_≡_};
 ghost use lib.Dec.{leb};
-ghost use Rattle.table.specs.Table.{Counted, survivors, defaultsIn};
+ghost use Rattle.table.specs.Table.{Counted, survivors, defaultsIn, survivorsIn};
 ghost use Rattle.table.specs.Words.{tableIn, HoldsTable};
 ghost use Rattle.table.specs.Counts.{largest};
 ghost use Rattle.pooling.specs.Pool.{asGrade};
 ghost use Rattle.cutoff.specs.Cutoff.{cheapestOf};
-ghost use Rattle.cutoff.specs.Verdict.{breakEven};
+ghost use Rattle.cutoff.specs.Verdict.{breakEven, IsVerdict};
 ghost use Rattle.cutoff.specs.Sweep.{scaleIn, Sweepable, Finds};
+use pooling::BLOCKS;
 use pooling::Block;
 use pooling::block_at;
+use pooling::blocks_of;
 use table::DEFAULTS;
 use table::Obligors;
 use table::Survivors;
@@ -167,4 +169,29 @@ pub enum Verdict {
     Second(Price),
     // prices at which the first costs more, and prices at which the second does
     Crossing(Price, Price),
+}
+
+// The verdict on the tables in two lent places, of equally many defaults and equally many survivors.
+pub fn judge(first: &[u32], second: &[u32]) -> Verdict
+    requires tables { ⌜ HoldsTable (now first) × HoldsTable (now second) ⌝ }
+    requires defaults { ⌜ defaultsIn (tableIn (now first)) ≡ defaultsIn (tableIn (now second)) ⌝ }
+    requires survivors { ⌜ survivorsIn (tableIn (now first)) ≡ survivorsIn (tableIn (now second)) ⌝ }
+    ensures { λ r. ⌜ IsVerdict (tableIn (now (first .entry))) (tableIn (now (second .entry))) r ⌝ }
+{
+    let mut ours = [0u32; BLOCKS];
+    let from = blocks_of(first, &mut ours);
+    let mut theirs = [0u32; BLOCKS];
+    let start = blocks_of(second, &mut theirs);
+    let first_dearer = where_dearer(&ours[from..], &theirs[start..]);
+    let second_dearer = where_dearer(&theirs[start..], &ours[from..]);
+    match first_dearer {
+        Dearer::Nowhere => match second_dearer {
+            Dearer::Nowhere => Verdict::Equal,
+            Dearer::At(q) => Verdict::First(q),
+        },
+        Dearer::At(p) => match second_dearer {
+            Dearer::Nowhere => Verdict::Second(p),
+            Dearer::At(q) => Verdict::Crossing(p, q),
+        },
+    }
 }
