@@ -1,78 +1,106 @@
--- The blocks that the code holds, as a scale: what a loop that goes from the worst block to the best knows of it.
-use Prim.Native.Nat.{ℕ, _+_, _-_, _≤_, _<_}
-use mathlib.Core.Path.{_≡_}
-use mathlib.Core.List.{[], _∷_, _++_, map, map-append}
+-- Blocks as a scale, and where they stand in its words: what a loop that goes from the worst block to the best knows of them.
+use Prim.Native.Nat.{ℕ, _+_, _-_, _*_, _≤_, _<_}
+use mathlib.Core.Path.{_≡_, ap, _∙_}
+use mathlib.Core.List.{List, [], _∷_, _++_, map, map-append}
 use native.Mathlib.Omega.{arith}
 use lib.ListN.{length, take, drop, take-append-drop, drop-of-length-le}
-use lib.Seq.{drop-drop}
-use Rattle.table.specs.Table.{Table, Grade, Counted, survivors, defaultsIn, survivorsIn}
+use Rattle.table.specs.Table.{Table, Grade, Every, Counted, survivors, defaultsIn, survivorsIn, obligorsIn}
 use Rattle.table.proofs.Every.{every-split}
 use Rattle.table.proofs.Sums.{obligors-split, obligors-append}
-use Rattle.pooling.specs.Pool.{asGrade, blocksIn}
-use Rattle.pooling.specs.declared.Blocks.{Blocks}
-use Rattle.pooling.proofs.Items.{itemAt, items-from}
-use Rattle.cutoff.specs.Sweep.{scaleIn, Sweepable}
+use Rattle.pooling.specs.declared.Block.{Block}
+use Rattle.pooling.specs.Pool.{Rising, asGrade, blockWords, blockAt, blocksIn}
+use Rattle.pooling.proofs.Words.{nth, nth-from, length-words, Last, last}
 use Rattle.cutoff.proofs.Odds.{OddsRise, rising-odds}
 
--- the blocks from place k on, as grades, and those before
-abbrev pub scaleFrom : Blocks → ℕ → Table
-scaleFrom b k = map asGrade (drop k (b .items))
+abbrev pub scaleOf : List Block → Table
+scaleOf bs = map asGrade bs
 
-abbrev pub scaleTo : Blocks → ℕ → Table
-scaleTo b k = map asGrade (take (k - b .top) (blocksIn b))
+-- the blocks from the k-th on, as grades, and those before
+abbrev pub scaleFrom : List Block → ℕ → Table
+scaleFrom bs k = scaleOf (drop k bs)
 
--- the block before place k, as a grade
-abbrev pub blockBefore : Blocks → ℕ → Grade
-blockBefore b k = asGrade (itemAt (b .items) (k - 1))
+abbrev pub scaleTo : List Block → ℕ → Table
+scaleTo bs k = scaleOf (take k bs)
 
-scale-split : (b : Blocks) (k : ℕ) → b .top ≤ k → scaleTo b k ++ scaleFrom b k ≡ scaleIn b
-scale-split b k h =
-    let e : b .top + (k - b .top) ≡ k = omega arith in
-    let d : drop (k - b .top) (blocksIn b) ≡ drop k (b .items) = rw (drop-drop, e) in
-    rw (← d, ← map-append asGrade (take (k - b .top) (blocksIn b)) (drop (k - b .top) (blocksIn b)), take-append-drop)
+-- the last of the first k blocks, as a grade
+abbrev pub blockBefore : List Block → ℕ → Grade
+blockBefore bs k = asGrade (nth bs (k - 1))
 
--- What is known of the blocks, and that they stand in an array of 40.
-pub record Held (b : Blocks) : Type 0 where
-  pub known : Sweepable b
-  pub long : length (b .items) ≡ 40
+scale-split : (bs : List Block) (k : ℕ) → scaleTo bs k ++ scaleFrom bs k ≡ scaleOf bs
+scale-split bs k = rw (← map-append asGrade (take k bs) (drop k bs), take-append-drop)
 
-pub scale-odds : {b : Blocks} → Held b → OddsRise (scaleIn b)
-scale-odds {b} held = rising-odds (blocksIn b) (held .known .rising) (held .known .counted)
+-- What is known of the blocks of a sound table.
+pub record Held (bs : List Block) : Type 0 where
+  pub rising : Rising bs
+  pub counted : Every Counted (scaleOf bs)
+  pub total : obligorsIn (scaleOf bs) ≤ 1_000_000
 
-pub scale-end : {b : Blocks} → Held b → scaleFrom b 40 ≡ []
-scale-end {b} held = let l : length (b .items) ≤ 40 = omega (arith, held .long) in rw (drop-of-length-le (b .items) l)
+pub scale-odds : {bs : List Block} → Held bs → OddsRise (scaleOf bs)
+scale-odds {bs} held = rising-odds bs (held .rising) (held .counted)
 
--- The totals from place k on are small.
-pub few : {b : Blocks} → Held b → (k : ℕ) → b .top ≤ k → defaultsIn (scaleFrom b k) + survivorsIn (scaleFrom b k) ≤ 1_000_000
-few {b} held k h =
-    let e = scale-split b k h in
-    let counted = every-split Counted (scaleTo b k) (scaleFrom b k) (rw e (held .known .counted)) .1 in
+pub scale-end : (bs : List Block) → scaleFrom bs (length bs) ≡ []
+scale-end bs = rw (drop-of-length-le bs {i = length bs} (omega arith))
+
+-- The totals from the k-th on are small.
+pub few : {bs : List Block} → Held bs → (k : ℕ) → defaultsIn (scaleFrom bs k) + survivorsIn (scaleFrom bs k) ≤ 1_000_000
+few {bs} held k =
+    let e = scale-split bs k in
+    let counted = every-split Counted (scaleTo bs k) (scaleFrom bs k) (rw e (held .counted)) .1 in
     omega (
       arith,
-      held .known .total,
-      rw e at (obligors-append (scaleTo b k) (scaleFrom b k)),
-      obligors-split (scaleFrom b k) counted,
+      held .total,
+      rw e at (obligors-append (scaleTo bs k) (scaleFrom bs k)),
+      obligors-split (scaleFrom bs k) counted,
     )
 
--- The block before place k.
-pub record Next (b : Blocks) (k : ℕ) : Type 0 where
-  pub split : scaleTo b (k - 1) ++ blockBefore b k ∷ scaleFrom b k ≡ scaleIn b
-  pub down : scaleFrom b (k - 1) ≡ blockBefore b k ∷ scaleFrom b k
-  pub odds : OddsRise (scaleTo b (k - 1) ++ blockBefore b k ∷ scaleFrom b k)
-  pub counted : Counted (blockBefore b k)
-  pub small : blockBefore b k .defaults + defaultsIn (scaleFrom b k) + (survivors (blockBefore b k) + survivorsIn (scaleFrom b k)) ≤ 1_000_000
+-- The last of the first k blocks.
+pub record Next (bs : List Block) (k : ℕ) : Type 0 where
+  pub split : scaleTo bs (k - 1) ++ blockBefore bs k ∷ scaleFrom bs k ≡ scaleOf bs
+  pub down : scaleFrom bs (k - 1) ≡ blockBefore bs k ∷ scaleFrom bs k
+  pub odds : OddsRise (scaleTo bs (k - 1) ++ blockBefore bs k ∷ scaleFrom bs k)
+  pub counted : Counted (blockBefore bs k)
+  pub small : blockBefore bs k .defaults + defaultsIn (scaleFrom bs k) + (survivors (blockBefore bs k) + survivorsIn (scaleFrom bs k)) ≤ 1_000_000
 
-pub next : {b : Blocks} → Held b → (k : ℕ) → b .top < k → k ≤ 40 → Next b k
+pub next : {bs : List Block} → Held bs → (k : ℕ) → 0 < k → k ≤ length bs → Next bs k
 unfolding defaultsIn survivorsIn
-next {b} held k from to =
+next {bs} held k from to =
     let i : k - 1 + 1 ≡ k = omega arith in
-    let l : k - 1 < length (b .items) = omega (arith, held .long) in
-    let down : scaleFrom b (k - 1) ≡ blockBefore b k ∷ scaleFrom b k = rw (items-from (b .items) (k - 1) l, i) in
-    let split = rw down at (scale-split b (k - 1) (omega arith)) in
+    let l : k - 1 < length bs = omega arith in
+    let down : scaleFrom bs (k - 1) ≡ blockBefore bs k ∷ scaleFrom bs k = rw (nth-from bs (k - 1) l, i) in
+    let split = rw down at (scale-split bs (k - 1)) in
     record {
       split = split;
       down = down;
       odds = rw split (scale-odds held);
-      counted = every-split Counted (scaleTo b (k - 1)) (blockBefore b k ∷ scaleFrom b k) (rw split (held .known .counted)) .1 .0;
-      small = omega (arith, rw down at (few held (k - 1) (omega arith)));
+      counted = every-split Counted (scaleTo bs (k - 1)) (blockBefore bs k ∷ scaleFrom bs k) (rw split (held .counted)) .1 .0;
+      small = omega (arith, rw down at (few held (k - 1)));
     }
+
+-- k blocks stand before index i of the words w.
+pub record Stands (w : List ℕ) (i k : ℕ) : Type 0 where
+  pub words : w ≡ blockWords (blocksIn w)
+  pub few : k ≤ length (blocksIn w)
+  pub same : i ≡ 3 * k
+
+-- The last of them.
+pub record Before (w : List ℕ) (i k : ℕ) : Type 0 where
+  pub some : 0 < k
+  pub inside : (3 ≤ i) × (i ≤ length w)
+  pub here : blockAt w (i - 3) ≡ nth (blocksIn w) (k - 1)
+  pub down : Stands w (i - 3) (k - 1)
+
+length-in : {w : List ℕ} → w ≡ blockWords (blocksIn w) → length w ≡ 3 * length (blocksIn w)
+length-in {w} e = ap length e ∙ length-words (blocksIn w)
+
+pub before : {w : List ℕ} {i k : ℕ} → Stands w i k → 0 < i → Before w i k
+before {w} {i} {k} s pos =
+    let l = last w (blocksIn w) 0 i (s .words) (record { count = k; few = s .few; same = omega (arith, s .same) }) pos in
+    record {
+      some = l .some;
+      inside = omega (arith, s .same, s .few, length-in (s .words));
+      here = l .here;
+      down = record { words = s .words; few = omega (arith, l .few); same = omega (arith, l .same) };
+    }
+
+pub stand-all : {w : List ℕ} → w ≡ blockWords (blocksIn w) → Stands w (length w) (length (blocksIn w))
+stand-all e = record { words = e; few = omega arith; same = length-in e }

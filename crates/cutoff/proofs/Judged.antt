@@ -1,15 +1,16 @@
 -- What the searches both ways find in the blocks of two tables makes a verdict on the tables.
 use Prim.Native.Nat.{ℕ, _≤_}
-use mathlib.Core.Path.{_≡_, refl, sym}
+use mathlib.Core.Path.{_≡_, refl, sym, ap, _∙_}
 use mathlib.Core.Bool.{Bool, true, false}
+use mathlib.Core.List.{List}
 use native.Mathlib.Omega.{arith}
 use lib.Dec.{T}
 use Rattle.table.specs.Table.{Table, Every, Counted, Sound, survivors, survivorsIn}
 use Rattle.table.proofs.Every.{every-map}
-use Rattle.pooling.specs.Pool.{pool, pooledScale, blocksIn}
-use Rattle.pooling.specs.declared.Blocks.{Blocks}
+use Rattle.pooling.specs.Pool.{pool, pooledScale, blockWords, blocksIn}
 use Rattle.pooling.proofs.Front.{pool-rising}
 use Rattle.pooling.proofs.Joined.{pooled-totals}
+use Rattle.pooling.proofs.Words.{blocks-back}
 use Rattle.cutoff.specs.Cutoff.{NoDearer, AtLeastAsGood}
 use Rattle.cutoff.specs.Verdict.{DearerAt, neverDearer, IsVerdict}
 use Rattle.cutoff.specs.Sweep.{Sweepable, Finds}
@@ -24,13 +25,14 @@ use Rattle.cutoff.proofs.Dominance.{break-even-decides}
 use Rattle.cutoff.proofs.Settled.{never-dearer}
 
 -- The blocks of a sound table can be searched.
-pub sweepable : (t : Table) (b : Blocks) → Sound t → blocksIn b ≡ pool t → b .top ≤ 40 → Sweepable b
-sweepable t b sound e inside =
+pub sweepable : (t : Table) (w : List ℕ) → Sound t → w ≡ blockWords (pool t) → Sweepable w
+sweepable t w sound e =
+    let back : blocksIn w ≡ pool t = ap blocksIn e ∙ blocks-back (pool t) in
     record {
-      inside = inside;
-      rising = rw e (pool-rising t);
-      counted = rw e (pool-counted t (sound .counted));
-      total = rw e (omega (arith, pooled-totals t, sound .total));
+      exact = rw back e;
+      rising = rw back (pool-rising t);
+      counted = rw back (pool-counted t (sound .counted));
+      total = rw back (omega (arith, pooled-totals t, sound .total));
     }
 
 true-is : (x : Bool) → T x → true ≡ x

@@ -2,21 +2,21 @@
 ghost use Prim.Native.Nat.{_+_, _*_, _≤_};
 ghost use mathlib.Core.Path.{_≡_};
 ghost use lib.Dec.{leb};
-ghost use lib.ListN.{length};
-ghost use Rattle.table.specs.Table.{Sound, Counted, survivors, defaultsIn, survivorsIn};
-ghost use Rattle.table.specs.Place.{tableOf, withColumns};
+ghost use Rattle.table.specs.Table.{Counted, survivors, defaultsIn, survivorsIn};
+ghost use Rattle.table.specs.Words.{tableIn, HoldsTable};
 ghost use Rattle.table.specs.Counts.{largest};
 ghost use Rattle.pooling.specs.Pool.{asGrade};
 ghost use Rattle.cutoff.specs.Cutoff.{cheapestOf};
 ghost use Rattle.cutoff.specs.Verdict.{breakEven, IsVerdict};
 ghost use Rattle.cutoff.specs.Sweep.{scaleIn, Sweepable, Finds};
+use pooling::BLOCKS;
 use pooling::Block;
-use pooling::Blocks;
-use pooling::blocks_in;
-use table::GRADES;
+use pooling::block_at;
+use pooling::blocks_of;
+use table::DEFAULTS;
 use table::Obligors;
-use table::Place;
 use table::Survivors;
+use table::grades_of;
 
 // The highest price that a call takes.
 pub const PRICE: u32 = 1_000_000;
@@ -27,30 +27,23 @@ pub struct CheapestCutoff {
     pub cost: u64,
 }
 
-// The cheapest cutoff of the table with these columns at price u of a missed default and v of a survivor turned away.
+// The cheapest cutoff of the table in a lent place, at price u of a missed default and v of a survivor turned away.
 // The loop goes from the worst grade to the best and keeps the cheapest cutoff of the grades passed: to accept one more grade costs
 // its defaults, to turn it away costs the survivors of all of them.
-pub fn cheapest_in<'a>(
-    obligors: &'a [u32],
-    defaults: &'a [u32],
-    announced: &'a [u32],
-    grades: usize,
-    u: u32,
-    v: u32,
-) -> CheapestCutoff
-    requires long { ⌜ (grades ≤ length (now obligors)) × (grades ≤ length (now defaults)) ⌝ }
-    requires sound { ⌜ Sound (tableOf (withColumns (now obligors) (now defaults) (now announced) grades)) ⌝ }
+pub fn cheapest(place: &[u32], u: u32, v: u32) -> CheapestCutoff
+    requires { ⌜ HoldsTable (now place) ⌝ }
     requires prices { ⌜ (u ≤ 1_000_000) × (v ≤ 1_000_000) ⌝ }
-    ensures { λ r. ⌜ r ≡ cheapestOf (tableOf (withColumns (now (obligors .entry)) (now (defaults .entry)) (now (announced .entry)) grades)) u v ⌝ }
+    ensures { λ r. ⌜ r ≡ cheapestOf (tableIn (now (place .entry))) u v ⌝ }
 {
+    let grades = grades_of(place);
     let mut i = grades;
     let mut passed = Survivors(0);
     let mut cutoff: u32 = 0;
     let mut cost: u64 = 0;
     while 0 < i {
         i -= 1;
-        let d = defaults[i];
-        passed = passed.plus(Obligors(obligors[i]).survivors(d));
+        let d = place[DEFAULTS + i];
+        passed = passed.plus(Obligors(place[i]).survivors(d));
         let away = (v as u64) * (passed.0 as u64);
         let accepted = (u as u64) * (d as u64) + cost;
         if away < accepted {
@@ -61,15 +54,6 @@ pub fn cheapest_in<'a>(
         }
     }
     CheapestCutoff { cutoff, cost }
-}
-
-// The cheapest cutoff of the table in a place.
-pub fn cheapest(p: Place, u: u32, v: u32) -> CheapestCutoff
-    requires sound { ⌜ Sound (tableOf p) ⌝ }
-    requires prices { ⌜ (u ≤ 1_000_000) × (v ≤ 1_000_000) ⌝ }
-    ensures { λ r. ⌜ r ≡ cheapestOf (tableOf p) u v ⌝ }
-{
-    cheapest_in(&p.obligors, &p.defaults, &p.announced, p.grades, u, v)
 }
 
 // A pair of prices: u of a missed default, v of a survivor turned away.
@@ -141,13 +125,13 @@ enum Dearer {
 // cost no more than their defaults. The prices of a better block turn more of them away, so j only falls.
 // Both scales have D defaults. So u (D - y) + v x is more for the first exactly if u y + v x is less with the first's y and the
 // second's x than with the second's y and the first's x.
-fn where_dearer(first: Blocks, second: Blocks) -> Dearer
-    requires scales { ⌜ Sweepable first × Sweepable second ⌝ }
-    requires defaults { ⌜ defaultsIn (scaleIn first) ≡ defaultsIn (scaleIn second) ⌝ }
-    ensures { λ r. ⌜ Finds (scaleIn first) (scaleIn second) r ⌝ }
+fn where_dearer(first: &[u32], second: &[u32]) -> Dearer
+    requires scales { ⌜ Sweepable (now first) × Sweepable (now second) ⌝ }
+    requires defaults { ⌜ defaultsIn (scaleIn (now first)) ≡ defaultsIn (scaleIn (now second)) ⌝ }
+    ensures { λ r. ⌜ Finds (scaleIn (now (first .entry))) (scaleIn (now (second .entry))) r ⌝ }
 {
-    let mut i = GRADES;
-    let mut j = GRADES;
+    let mut i = first.len();
+    let mut j = second.len();
     let mut ours = Cut {
         caught: 0,
         lost: Survivors(0),
@@ -156,13 +140,13 @@ fn where_dearer(first: Blocks, second: Blocks) -> Dearer
         caught: 0,
         lost: Survivors(0),
     };
-    while first.top < i {
-        let block = first.items[i - 1];
+    while 0 < i {
+        let block = block_at(first, i - 3);
         let price = Price::break_even(block);
-        if second.top < j {
-            let next = second.items[j - 1];
+        if 0 < j {
+            let next = block_at(second, j - 3);
             if price.turns_away(next) {
-                j -= 1;
+                j -= 3;
                 theirs = theirs.with(next);
                 continue;
             }
@@ -170,7 +154,7 @@ fn where_dearer(first: Blocks, second: Blocks) -> Dearer
         if price.cost(ours.caught, theirs.lost) < price.cost(theirs.caught, ours.lost) {
             return Dearer::At(price);
         }
-        i -= 1;
+        i -= 3;
         ours = ours.with(block);
     }
     Dearer::Nowhere
@@ -187,29 +171,19 @@ pub enum Verdict {
     Crossing(Price, Price),
 }
 
-// The verdict on two tables with these columns, of equally many defaults and equally many survivors.
-pub fn judge_in<'a, 'b>(
-    obligors1: &'a [u32],
-    defaults1: &'a [u32],
-    announced1: &'a [u32],
-    grades1: usize,
-    obligors2: &'b [u32],
-    defaults2: &'b [u32],
-    announced2: &'b [u32],
-    grades2: usize,
-) -> Verdict
-    requires long1 { ⌜ (grades1 ≤ length (now obligors1)) × (grades1 ≤ length (now defaults1)) ⌝ }
-    requires long2 { ⌜ (grades2 ≤ length (now obligors2)) × (grades2 ≤ length (now defaults2)) ⌝ }
-    requires sound1 { ⌜ Sound (tableOf (withColumns (now obligors1) (now defaults1) (now announced1) grades1)) ⌝ }
-    requires sound2 { ⌜ Sound (tableOf (withColumns (now obligors2) (now defaults2) (now announced2) grades2)) ⌝ }
-    requires defaults { ⌜ defaultsIn (tableOf (withColumns (now obligors1) (now defaults1) (now announced1) grades1)) ≡ defaultsIn (tableOf (withColumns (now obligors2) (now defaults2) (now announced2) grades2)) ⌝ }
-    requires survivors { ⌜ survivorsIn (tableOf (withColumns (now obligors1) (now defaults1) (now announced1) grades1)) ≡ survivorsIn (tableOf (withColumns (now obligors2) (now defaults2) (now announced2) grades2)) ⌝ }
-    ensures { λ r. ⌜ IsVerdict (tableOf (withColumns (now (obligors1 .entry)) (now (defaults1 .entry)) (now (announced1 .entry)) grades1)) (tableOf (withColumns (now (obligors2 .entry)) (now (defaults2 .entry)) (now (announced2 .entry)) grades2)) r ⌝ }
+// The verdict on the tables in two lent places, of equally many defaults and equally many survivors.
+pub fn judge(first: &[u32], second: &[u32]) -> Verdict
+    requires tables { ⌜ HoldsTable (now first) × HoldsTable (now second) ⌝ }
+    requires defaults { ⌜ defaultsIn (tableIn (now first)) ≡ defaultsIn (tableIn (now second)) ⌝ }
+    requires survivors { ⌜ survivorsIn (tableIn (now first)) ≡ survivorsIn (tableIn (now second)) ⌝ }
+    ensures { λ r. ⌜ IsVerdict (tableIn (now (first .entry))) (tableIn (now (second .entry))) r ⌝ }
 {
-    let ours = blocks_in(obligors1, defaults1, announced1, grades1);
-    let theirs = blocks_in(obligors2, defaults2, announced2, grades2);
-    let first_dearer = where_dearer(ours, theirs);
-    let second_dearer = where_dearer(theirs, ours);
+    let mut ours = [0u32; BLOCKS];
+    let from = blocks_of(first, &mut ours);
+    let mut theirs = [0u32; BLOCKS];
+    let start = blocks_of(second, &mut theirs);
+    let first_dearer = where_dearer(&ours[from..], &theirs[start..]);
+    let second_dearer = where_dearer(&theirs[start..], &ours[from..]);
     match first_dearer {
         Dearer::Nowhere => match second_dearer {
             Dearer::Nowhere => Verdict::Equal,
@@ -220,23 +194,4 @@ pub fn judge_in<'a, 'b>(
             Dearer::At(q) => Verdict::Crossing(p, q),
         },
     }
-}
-
-// The verdict on the tables in two places, of equally many defaults and equally many survivors.
-pub fn judge(first: Place, second: Place) -> Verdict
-    requires sound { ⌜ Sound (tableOf first) × Sound (tableOf second) ⌝ }
-    requires defaults { ⌜ defaultsIn (tableOf first) ≡ defaultsIn (tableOf second) ⌝ }
-    requires survivors { ⌜ survivorsIn (tableOf first) ≡ survivorsIn (tableOf second) ⌝ }
-    ensures { λ r. ⌜ IsVerdict (tableOf first) (tableOf second) r ⌝ }
-{
-    judge_in(
-        &first.obligors,
-        &first.defaults,
-        &first.announced,
-        first.grades,
-        &second.obligors,
-        &second.defaults,
-        &second.announced,
-        second.grades,
-    )
 }

@@ -7,7 +7,7 @@ use Rattle.table.specs.Table.{Table, Grade, Every, Counted, Rated, Sound, survi
 use Rattle.table.proofs.Arithmetic.{counts-le}
 use Rattle.table.proofs.Suffix.{sound-small}
 use Rattle.measures.specs.declared.Measures.{Measures}
-use Rattle.measures.specs.declared.Fraction.{Fraction}
+use Rattle.measures.specs.declared.UnsignedFraction.{UnsignedFraction}
 use Rattle.measures.specs.Measures.{measuresOf}
 use Rattle.measures.specs.Brier.{brierAt, brierSum, brierOf}
 use Rattle.measures.proofs.Pairs.{every-pair, few-counts}
@@ -25,7 +25,7 @@ unfolding brierSum obligorsIn
 brier-le [] counted rated = omega arith
 brier-le (r ∷ t) counted rated = omega (arith, brier-at-le r (counted .0) (rated .0), brier-le t (counted .1) (rated .1))
 
-pub record FewBrier (f : Fraction) : Type 0 where
+pub record FewBrier (f : UnsignedFraction) : Type 0 where
   pub numerator : f .numerator ≤ 1_000_000_000_000_000_000
   pub denominator : f .denominator ≤ 1_000_000_000_000_000_000
 

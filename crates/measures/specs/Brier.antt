@@ -2,7 +2,7 @@
 use Prim.Native.Nat.{ℕ, _+_, _-_, _*_}
 use mathlib.Core.List.{[], _∷_}
 use Rattle.table.specs.Table.{Table, Grade, survivors, obligorsIn}
-use Rattle.measures.specs.declared.Fraction.{Fraction}
+use Rattle.measures.specs.declared.UnsignedFraction.{UnsignedFraction}
 
 -- d (1,000,000 - p)² + (n - d) p² of a grade with announced rate p
 abbrev pub brierAt : Grade → ℕ
@@ -14,5 +14,5 @@ unfoldable pub brierSum : Table → ℕ
 brierSum [] = 0
 brierSum (r ∷ t) = brierAt r + brierSum t
 
-unfoldable pub brierOf : Table → Fraction
+unfoldable pub brierOf : Table → UnsignedFraction
 brierOf t = record { numerator = brierSum t; denominator = obligorsIn t * 1_000_000_000_000 }

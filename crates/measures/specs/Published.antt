@@ -6,12 +6,12 @@ use lib.ListN.{length, replicate}
 use Rattle.table.specs.Table.{Table, survivors, defaultsIn, survivorsIn, obligorsIn}
 use Rattle.pooling.specs.Fraction.{Fraction, nought, ratio, sum, difference, square, product}
 use Rattle.cutoff.specs.Cutoff.{caught, lost}
-use Rattle.measures.specs.declared.Fraction as declared
 use Rattle.measures.specs.declared.SignedFraction.{SignedFraction}
+use Rattle.measures.specs.declared.UnsignedFraction.{UnsignedFraction}
 
 -- The value of a fraction that the code returns.
 
-abbrev pub value : declared.Fraction → Fraction
+abbrev pub value : UnsignedFraction → Fraction
 value x = ratio (x .numerator) (x .denominator)
 
 abbrev pub over : ℤ → ℕ → Fraction

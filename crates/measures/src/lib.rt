@@ -2,17 +2,19 @@
 ghost use Prim.Native.Nat.{_*_, _≤_};
 ghost use mathlib.Core.Path.{_≡_};
 ghost use lib.IntN.{subℕ};
-ghost use lib.ListN.{length};
-ghost use Rattle.table.specs.Table.{Sound, defaultsIn, survivorsIn};
-ghost use Rattle.table.specs.Place.{tableOf, withColumns};
+ghost use Rattle.table.specs.Table.{defaultsIn, survivorsIn};
+ghost use Rattle.table.specs.Words.{tableIn, HoldsTable};
 ghost use Rattle.measures.specs.Measures.{pairCountsOf, highestOf, measuresOf};
 ghost use Rattle.measures.specs.Brier.{brierOf};
+use table::ANNOUNCED;
+use table::DEFAULTS;
 use table::Obligors;
-use table::Place;
+use table::PPM;
 use table::Survivors;
+use table::grades_of;
 
 // A fraction as document 01 writes it, not reduced.
-pub struct Fraction {
+pub struct UnsignedFraction {
     pub numerator: u64,
     pub denominator: u64,
 }
@@ -27,8 +29,8 @@ pub struct Measures {
     pub defaults: u32,
     pub survivors: Survivors,
     pub gini: SignedFraction,
-    pub roc: Fraction,
-    pub cap: Fraction,
+    pub roc: UnsignedFraction,
+    pub cap: UnsignedFraction,
     pub pietra: SignedFraction,
     pub cutoff: u32,
 }
@@ -61,25 +63,19 @@ fn difference(a: u64, b: u64) -> i64
 }
 
 // From the worst grade to the best: each grade's survivors with the defaults in worse grades, and its defaults with the survivors there.
-fn count_pairs<'a>(
-    obligors: &'a [u32],
-    defaults: &'a [u32],
-    announced: &'a [u32],
-    grades: usize,
-) -> PairCounts
-    requires long { ⌜ (grades ≤ length (now obligors)) × (grades ≤ length (now defaults)) ⌝ }
-    requires sound { ⌜ Sound (tableOf (withColumns (now obligors) (now defaults) (now announced) grades)) ⌝ }
-    ensures { λ r. ⌜ r ≡ pairCountsOf (tableOf (withColumns (now (obligors .entry)) (now (defaults .entry)) (now (announced .entry)) grades)) ⌝ }
+fn count_pairs(place: &[u32]) -> PairCounts
+    requires { ⌜ HoldsTable (now place) ⌝ }
+    ensures { λ r. ⌜ r ≡ pairCountsOf (tableIn (now (place .entry))) ⌝ }
 {
-    let mut i = grades;
+    let mut i = grades_of(place);
     let mut defaulted: u32 = 0;
     let mut survivors = Survivors(0);
     let mut concordant: u64 = 0;
     let mut discordant: u64 = 0;
     while 0 < i {
         i -= 1;
-        let d = defaults[i];
-        let s = Obligors(obligors[i]).survivors(d);
+        let d = place[DEFAULTS + i];
+        let s = Obligors(place[i]).survivors(d);
         concordant += product(s.0, defaulted);
         discordant += product(d, survivors.0);
         defaulted += d;
@@ -94,20 +90,13 @@ fn count_pairs<'a>(
 }
 
 // Cutoff by cutoff from none turned away, of which the height is 0, to all. `defaulted` and `survivors` are the table's.
-fn highest<'a>(
-    obligors: &'a [u32],
-    defaults: &'a [u32],
-    announced: &'a [u32],
-    grades: usize,
-    defaulted: u32,
-    survivors: Survivors,
-) -> HighestCutoff
-    requires long { ⌜ (grades ≤ length (now obligors)) × (grades ≤ length (now defaults)) ⌝ }
-    requires sound { ⌜ Sound (tableOf (withColumns (now obligors) (now defaults) (now announced) grades)) ⌝ }
-    requires all_defaults { ⌜ defaulted ≡ defaultsIn (tableOf (withColumns (now obligors) (now defaults) (now announced) grades)) ⌝ }
-    requires all_survivors { ⌜ survivors .0 ≡ survivorsIn (tableOf (withColumns (now obligors) (now defaults) (now announced) grades)) ⌝ }
-    ensures { λ r. ⌜ r ≡ highestOf (tableOf (withColumns (now (obligors .entry)) (now (defaults .entry)) (now (announced .entry)) grades)) ⌝ }
+fn highest(place: &[u32], defaulted: u32, survivors: Survivors) -> HighestCutoff
+    requires { ⌜ HoldsTable (now place) ⌝ }
+    requires all_defaults { ⌜ defaulted ≡ defaultsIn (tableIn (now place)) ⌝ }
+    requires all_survivors { ⌜ survivors .0 ≡ survivorsIn (tableIn (now place)) ⌝ }
+    ensures { λ r. ⌜ r ≡ highestOf (tableIn (now (place .entry))) ⌝ }
 {
+    let grades = grades_of(place);
     let mut i = grades;
     let mut caught: u32 = 0;
     let mut lost = Survivors(0);
@@ -115,9 +104,9 @@ fn highest<'a>(
     let mut height: i64 = 0;
     while 0 < i {
         i -= 1;
-        let d = defaults[i];
+        let d = place[DEFAULTS + i];
         caught += d;
-        lost = lost.plus(Obligors(obligors[i]).survivors(d));
+        lost = lost.plus(Obligors(place[i]).survivors(d));
         let here = difference(product(caught, survivors.0), product(lost.0, defaulted));
         if height < here {
             height = here;
@@ -127,21 +116,15 @@ fn highest<'a>(
     HighestCutoff { cutoff, height }
 }
 
-// The measures of the table with these columns. Without a default or a survivor a denominator is 0.
-pub fn measure_in<'a>(
-    obligors: &'a [u32],
-    defaults: &'a [u32],
-    announced: &'a [u32],
-    grades: usize,
-) -> Measures
-    requires long { ⌜ (grades ≤ length (now obligors)) × (grades ≤ length (now defaults)) ⌝ }
-    requires sound { ⌜ Sound (tableOf (withColumns (now obligors) (now defaults) (now announced) grades)) ⌝ }
-    ensures { λ r. ⌜ r ≡ measuresOf (tableOf (withColumns (now (obligors .entry)) (now (defaults .entry)) (now (announced .entry)) grades)) ⌝ }
+// The measures of the table in a lent place. Without a default or a survivor a denominator is 0.
+pub fn measure(place: &[u32]) -> Measures
+    requires { ⌜ HoldsTable (now place) ⌝ }
+    ensures { λ r. ⌜ r ≡ measuresOf (tableIn (now (place .entry))) ⌝ }
 {
-    let counts = count_pairs(obligors, defaults, announced, grades);
+    let counts = count_pairs(place);
     let defaulted = counts.defaults;
     let survivors = counts.survivors;
-    let top = highest(obligors, defaults, announced, grades, defaulted, survivors);
+    let top = highest(place, defaulted, survivors);
     let pairs = product(defaulted, survivors.0);
     let profile = product(defaulted, survivors.with_defaults(defaulted).0);
     Measures {
@@ -152,11 +135,11 @@ pub fn measure_in<'a>(
             denominator: pairs,
         },
         // Every pair is one of C, X and T, so that this is 2C + T.
-        roc: Fraction {
+        roc: UnsignedFraction {
             numerator: pairs + counts.concordant - counts.discordant,
             denominator: 2 * pairs,
         },
-        cap: Fraction {
+        cap: UnsignedFraction {
             numerator: profile + counts.concordant - counts.discordant,
             denominator: 2 * profile,
         },
@@ -168,14 +151,6 @@ pub fn measure_in<'a>(
     }
 }
 
-// The measures of the table in a place.
-pub fn measure(p: Place) -> Measures
-    requires { ⌜ Sound (tableOf p) ⌝ }
-    ensures { λ r. ⌜ r ≡ measuresOf (tableOf p) ⌝ }
-{
-    measure_in(&p.obligors, &p.defaults, &p.announced, p.grades)
-}
-
 // The square of a difference in ppm, once for each of so many obligors.
 fn squares(count: u32, ppm: u32) -> u64
     requires { ⌜ (count ≤ 1_000_000) × (ppm ≤ 1_000_000) ⌝ }
@@ -184,40 +159,26 @@ fn squares(count: u32, ppm: u32) -> u64
     (count as u64) * product(ppm, ppm)
 }
 
-// The Brier score of the announced rates of the table with these columns.
-pub fn brier_in<'a>(
-    obligors: &'a [u32],
-    defaults: &'a [u32],
-    announced: &'a [u32],
-    grades: usize,
-) -> Fraction
-    requires long { ⌜ (grades ≤ length (now obligors)) × (grades ≤ length (now defaults)) × (grades ≤ length (now announced)) ⌝ }
-    requires sound { ⌜ Sound (tableOf (withColumns (now obligors) (now defaults) (now announced) grades)) ⌝ }
-    ensures { λ r. ⌜ r ≡ brierOf (tableOf (withColumns (now (obligors .entry)) (now (defaults .entry)) (now (announced .entry)) grades)) ⌝ }
+// The Brier score of the announced rates of the table in a lent place.
+pub fn brier(place: &[u32]) -> UnsignedFraction
+    requires { ⌜ HoldsTable (now place) ⌝ }
+    ensures { λ r. ⌜ r ≡ brierOf (tableIn (now (place .entry))) ⌝ }
 {
-    let mut i = grades;
+    let mut i = grades_of(place);
     let mut all = Obligors(0);
     let mut sum: u64 = 0;
     while 0 < i {
         i -= 1;
-        let n = Obligors(obligors[i]);
-        let d = defaults[i];
+        let n = Obligors(place[i]);
+        let d = place[DEFAULTS + i];
         let s = n.survivors(d);
-        let rate = announced[i];
-        let short = 1_000_000 - rate;
+        let rate = place[ANNOUNCED + i];
+        let short = PPM - rate;
         sum += squares(d, short) + squares(s.0, rate);
         all = all.plus(n);
     }
-    Fraction {
+    UnsignedFraction {
         numerator: sum,
         denominator: (all.0 as u64) * 1_000_000_000_000,
     }
-}
-
-// The Brier score of the announced rates of the table in a place.
-pub fn brier(p: Place) -> Fraction
-    requires { ⌜ Sound (tableOf p) ⌝ }
-    ensures { λ r. ⌜ r ≡ brierOf (tableOf p) ⌝ }
-{
-    brier_in(&p.obligors, &p.defaults, &p.announced, p.grades)
 }

@@ -1,20 +1,34 @@
--- `where_dearer` meets its contract. The invariant is `Swept`; each turn takes one block of the first or of the second.
-use Prim.Native.Nat.{_+_, _≤_}
-use mathlib.Core.Path.{_≡_, sym, _∙_}
+-- `where_dearer` meets its contract. The invariant is `Swept` of the blocks before i and j; each turn takes one block of the first or of
+-- the second.
+use Prim.Native.Nat.{ℕ, _+_, _-_, _≤_}
+use mathlib.Core.Path.{_≡_, sym, ap, _∙_}
 use mathlib.Core.Logic.{⊎-elim}
+use mathlib.Core.List.{List}
 use native.Mathlib.Omega.{arith}
 use borrow.Author.Needs.{needs}
-use lib.ListN.{length-map}
+use denote.Ref.{now}
 use Rattle.table.specs.Table.{defaultsIn, survivorsIn}
+use Rattle.pooling.specs.declared.Block.{Block}
+use Rattle.pooling.specs.Pool.{asGrade, blocksIn}
+use Rattle.pooling.proofs.Words.{nth}
+use Rattle.cutoff.specs.declared.Cut.{Cut}
+use Rattle.cutoff.specs.Verdict.{breakEven}
 use Rattle.cutoff.specs.Sweep.{scaleIn}
 use Rattle.cutoff.proofs.Cuts.{CutsAt}
-use Rattle.cutoff.proofs.Held.{Held, scaleFrom, scale-end, blockBefore, Next, next}
+use Rattle.cutoff.proofs.Held.{Held, scaleFrom, scale-end, blockBefore, Next, next, Stands, Before, before, stand-all}
 use Rattle.cutoff.proofs.Sweep.{cutOf, Swept, sizes, moves, stays, none-left, found, passes}
 use Rattle.cutoff.proofs.where_dearer.Statement.{statement}
 use Rattle.cutoff.proofs.where_dearer.Tie as tie
 
+record Sweeps (first second : List ℕ) (i j : ℕ) (ours theirs : Cut) : Type 0 where
+  pub k : ℕ
+  pub l : ℕ
+  pub one : Stands first i k
+  pub two : Stands second j l
+  pub swept : Swept (blocksIn first) (blocksIn second) k l ours theirs
+
 abbrev Inv-loop : tie.InvT-loop
-Inv-loop first second i₀ j₀ ours₀ theirs₀ i j ours theirs = Swept first second i j ours theirs
+Inv-loop first second i₀ j₀ ours₀ theirs₀ i j ours theirs = Sweeps first second i j ours theirs
 
 abbrev μ-loop : tie.MeasureT-loop
 μ-loop first second i₀ j₀ ours₀ theirs₀ i j ours theirs = i + j
@@ -22,76 +36,119 @@ abbrev μ-loop : tie.MeasureT-loop
 loop-holds : tie.Need-loop-holds Inv-loop μ-loop
 unfolding cutOf defaultsIn survivorsIn
 loop-holds c =
-    let one : Held (c .args .t1) = record { known = c .pre .0 .0; long = simp length-map at (c .good .0 .1 .1 .0 .1 .0 .1) } in
-    let two : Held (c .args .t2) = record { known = c .pre .0 .1; long = simp length-map at (c .good .1 .0 .1 .1 .0 .1 .0 .1) } in
-    let none₁ = scale-end one in
-    let none₂ = scale-end two in
+    let (known₁, known₂) = c .before .before .pre .0 in
+    let none₁ = scale-end (blocksIn (now (c .before .before .args .first))) in
+    let none₂ = scale-end (blocksIn (now (c .before .before .args .second))) in
     record {
-      one = one;
-      two = two;
-      same = c .pre .1;
-      inside₁ = (c .pre .0 .0 .inside, omega arith);
-      inside₂ = (c .pre .0 .1 .inside, omega arith);
-      cut₁ = rw none₁;
-      cut₂ = rw none₂;
-      tried = rw none₁ tt;
-      away = λ h. rw none₂ tt;
+      k = _;
+      l = _;
+      one = stand-all (known₁ .exact);
+      two = stand-all (known₂ .exact);
+      swept = record {
+        one = record { rising = known₁ .rising; counted = known₁ .counted; total = known₁ .total };
+        two = record { rising = known₂ .rising; counted = known₂ .counted; total = known₂ .total };
+        same = c .before .before .pre .1;
+        inside₁ = omega arith;
+        inside₂ = omega arith;
+        cut₁ = rw none₁;
+        cut₂ = rw none₂;
+        tried = rw none₁ tt;
+        away = λ h. rw none₂ tt;
+      };
     }
 
 -- The blocks that a turn looks at.
 
-at₁ : (c : tie.In-loop Inv-loop μ-loop) → Next (c .before .before .args .t1) (c .before .loop .i)
-at₁ c = let inv = c .before .loop .inv in next (inv .one) _ (c .loop-test .taken) (inv .inside₁ .1)
+before₁ : (c : tie.In-loop Inv-loop μ-loop) → Before (now (c .before .before .before .before .args .first)) (c .before .loop .i) (c .before .loop .inv .k)
+before₁ c = before (c .before .loop .inv .one) (c .loop-test .taken)
 
-at₂ : (c : tie.Then1 Inv-loop μ-loop) → let a = c .before .before .before .before in Next (a .before .args .t2) (a .loop .j)
-at₂ c = let inv = c .before .before .before .before .loop .inv in next (inv .two) _ (c .if1 .taken) (inv .inside₂ .1)
+before₂ : (c : tie.Then1 Inv-loop μ-loop) →
+    let l = c .before .before .before .before in
+    Before (now (l .before .before .before .args .second)) (l .loop .j) (l .loop .inv .l)
+before₂ c = before (c .before .before .before .before .loop .inv .two) (c .if1 .taken)
+
+next₁ : (c : tie.In-loop Inv-loop μ-loop) → Next (blocksIn (now (c .before .before .before .before .args .first))) (c .before .loop .inv .k)
+next₁ c = let inv = c .before .loop .inv .swept in next (inv .one) _ (before₁ c .some) (inv .inside₁)
+
+next₂ : (c : tie.Then1 Inv-loop μ-loop) →
+    let l = c .before .before .before .before in
+    Next (blocksIn (now (l .before .before .before .args .second))) (l .loop .inv .l)
+next₂ c = let inv = c .before .before .before .before .loop .inv .swept in next (inv .two) _ (before₂ c .some) (inv .inside₂)
+
+block₁ : (c : tie.After-block-at Inv-loop μ-loop) →
+    let l = c .before .before in
+    c .block-at .result ≡ nth (blocksIn (now (l .before .before .before .args .first))) (l .loop .inv .k - 1)
+block₁ c = c .block-at .ensures ∙ before₁ (c .before) .here
+
+block₂ : (c : tie.After-block-at2 Inv-loop μ-loop) →
+    let l = c .before .before .before .before .before in
+    c .block-at2 .result ≡ nth (blocksIn (now (l .before .before .before .args .second))) (l .loop .inv .l - 1)
+block₂ c = c .block-at2 .ensures ∙ before₂ (c .before) .here
+
+prices : (c : tie.After-break-even Inv-loop μ-loop) →
+    let l = c .before .before .before in
+    c .break-even .result ≡ breakEven (blockBefore (blocksIn (now (l .before .before .before .args .first))) (l .loop .inv .k))
+prices c = c .break-even .ensures ∙ ap (λ (b : Block). breakEven (asGrade b)) (block₁ (c .before))
 
 with-requires : tie.Need-with-requires Inv-loop μ-loop
 unfolding cutOf
 with-requires c κs =
-    let n = at₂ (c .before .before .before) in
-    rw (c .before .before .before .before .before .before .before .loop .inv .cut₂) (n .counted, (omega (arith, n .small), omega (arith, n .small)))
+    let n = next₂ (c .before .before .before) in
+    rw (block₂ (c .before .before), c .before .before .before .before .before .before .before .loop .inv .swept .cut₂)
+    (n .counted, (omega (arith, n .small), omega (arith, n .small)))
 
 with-requires-2 : tie.Need-with-requires-2 Inv-loop μ-loop
 unfolding cutOf
 with-requires-2 c κs =
     let a = c .before .before .before .before .before .before in
-    let n = at₁ a in
-    rw (a .before .loop .inv .cut₁) (n .counted, (omega (arith, n .small), omega (arith, n .small)))
+    let n = next₁ a in
+    rw (block₁ (c .before .before .before .before .before), a .before .loop .inv .swept .cut₁)
+    (n .counted, (omega (arith, n .small), omega (arith, n .small)))
 
 -- What it does.
 
 loop-again : tie.Need-loop-again Inv-loop μ-loop
 loop-again c =
-    let a = c .before .before .before .before in
+    let b = c .before .before .before in
+    let a = b .before in
     let turn = a .before .before .before in
-    moves (turn .before .loop .inv) (turn .loop-test .taken) (a .before .break-even .ensures) (a .if1 .taken)
-    (sym (c .before .before .turns-away .ensures) ∙ c .before .if2 .taken)
-    (c .with .ensures)
+    let inv = turn .before .loop .inv in
+    record {
+      k = _;
+      l = _;
+      one = inv .one;
+      two = before₂ a .down;
+      swept = moves (inv .swept) (before₁ turn .some) (prices (a .before)) (before₂ a .some)
+          (rw (block₂ b) at (sym (c .before .before .turns-away .ensures) ∙ c .before .if2 .taken))
+          (rw (block₂ b) at (c .with .ensures));
+    }
 
 cost-small : (c : tie.Joined1 Inv-loop μ-loop)
     → let p = c .before .break-even .result in
     let l = c .before .before .before .before .loop in
     ((p .u ≤ 1_000_000) × (p .v ≤ 1_000_000)) × ((l .ours .caught + l .ours .lost .0 ≤ 1_000_000) × (l .theirs .caught + l .theirs .lost .0 ≤ 1_000_000))
-cost-small c = let turn = c .before .before .before in sizes (turn .before .loop .inv) (turn .loop-test .taken) (c .before .break-even .ensures)
+cost-small c = let turn = c .before .before .before in sizes (turn .before .loop .inv .swept) (before₁ turn .some) (prices (c .before))
 
 cuts : (c : tie.Joined1 Inv-loop μ-loop)
-    → let a = c .before .before .before .before in
-    CutsAt (blockBefore (a .before .args .t1) (a .loop .i)) (scaleIn (a .before .args .t2)) (scaleFrom (a .before .args .t2) (a .loop .j))
+    → let l = c .before .before .before .before in
+    let a = l .before .before .before .args in
+    CutsAt (blockBefore (blocksIn (now (a .first))) (l .loop .inv .k)) (scaleIn (now (a .second))) (scaleFrom (blocksIn (now (a .second))) (l .loop .inv .l))
 cuts c =
     let turn = c .before .before .before in
     let inv = turn .before .loop .inv in
-    let prices = c .before .break-even .ensures in
     ⊎-elim
-    (λ w. stays inv (turn .loop-test .taken) prices (w .0 .taken) (sym (w .2 .ensures) ∙ w .3 .left))
-    (λ w. none-left inv (turn .loop-test .taken) prices (w .left))
+    (λ w.
+    let b = before (inv .two) (w .0 .taken) in
+    let e = w .1 .ensures ∙ b .here in
+    stays (inv .swept) (before₁ turn .some) (prices (c .before)) (b .some) (rw e at (sym (w .2 .ensures) ∙ w .3 .left)))
+    (λ w. none-left (inv .swept) (before₁ turn .some) (prices (c .before)) (omega (arith, w .left, inv .two .same)))
     (c .if1 .came)
 
 returns : tie.Need-returns Inv-loop μ-loop
 returns c =
     let b = c .before .before .before in
     let turn = b .before .before .before in
-    found (turn .before .loop .inv) (turn .loop-test .taken) (b .before .break-even .ensures) (cuts b)
+    found (turn .before .loop .inv .swept) (before₁ turn .some) (prices (b .before)) (cuts b)
     (omega (arith, c .if3 .taken, c .before .before .cost .ensures, c .before .cost2 .ensures))
 
 loop-again-2 : tie.Need-loop-again-2 Inv-loop μ-loop
@@ -99,15 +156,22 @@ loop-again-2 c =
     let a = c .before in
     let b = a .before .before .before in
     let turn = b .before .before .before in
-    passes (turn .before .loop .inv) (turn .loop-test .taken) (b .before .break-even .ensures) (cuts b)
-    (omega (arith, a .if3 .left, a .before .before .cost .ensures, a .before .cost2 .ensures))
-    (c .with2 .ensures)
+    let inv = turn .before .loop .inv in
+    record {
+      k = _;
+      l = _;
+      one = before₁ turn .down;
+      two = inv .two;
+      swept = passes (inv .swept) (before₁ turn .some) (prices (b .before)) (cuts b)
+          (omega (arith, a .if3 .left, a .before .before .cost .ensures, a .before .cost2 .ensures))
+          (rw (block₁ (b .before .before)) at (c .with2 .ensures));
+    }
 
 returns-2 : tie.Need-returns-2 Inv-loop μ-loop
 returns-2 c =
     let inv = c .before .loop .inv in
-    let e : c .before .loop .i ≡ c .before .before .args .t1 .top = omega (arith, c .loop-test .left, inv .inside₁) in
-    rw e at (inv .tried)
+    let e : inv .k ≡ 0 = omega (arith, c .loop-test .left, inv .one .same) in
+    rw e at (inv .swept .tried)
 
 pub where-dearer-spec : {M : Type 1} → statement M
 where-dearer-spec =
@@ -116,23 +180,21 @@ where-dearer-spec =
     Inv-loop
     μ-loop
     loop-holds
-    (λ c. search needs)
-    (λ c. let h = c .before .loop .inv .inside₁ in omega arith)
-    (λ c. let h = c .before .loop .inv .inside₁ in omega arith)
-    (λ c κs. at₁ (c .before) .counted)
-    (λ c. search needs)
-    (λ c. let h = c .before .before .before .before .loop .inv .inside₂ in omega arith)
-    (λ c. let h = c .before .before .before .before .loop .inv .inside₂ in omega arith)
-    (λ c κs. at₂ (c .before) .counted)
-    (λ c. search needs)
+    (λ c. before₁ c .inside .0)
+    (λ c κs. let h = before₁ c .inside in omega arith)
+    (λ c κs. rw (block₁ c) (next₁ (c .before) .counted))
+    (λ c. before₂ c .inside .0)
+    (λ c κs. let h = before₂ c .inside in omega arith)
+    (λ c κs. rw (block₂ c) (next₂ (c .before) .counted))
+    (λ c. before₂ (c .before .before .before) .inside .0)
     with-requires
-    (λ c. search needs)
+    (λ c. let h = before₂ (c .before .before .before .before) .inside in omega arith)
     loop-again
     (λ c κs. let s = cost-small c in (s .0, (omega arith, omega arith)))
     (λ c κs. let s = cost-small (c .before) in (s .0, (omega arith, omega arith)))
     returns
-    (λ c. search needs)
+    (λ c. before₁ (c .before .before .before .before .before .before) .inside .0)
     with-requires-2
-    (λ c. search needs)
+    (λ c. let h = before₁ (c .before .before .before .before .before .before .before) .inside in omega arith)
     loop-again-2
     returns-2)

@@ -9,9 +9,11 @@ use lib.ListN.{getD}
 use Rattle.table.specs.declared.Place.{Place}
 use Rattle.table.specs.declared.Survivors.{Survivors}
 use Rattle.table.specs.Table.{survivors, defaultsIn, survivorsIn, obligorsIn}
-use Rattle.table.specs.Place.{gradeAt, tableOf, withColumns}
+use Rattle.table.specs.Place.{gradeAt, tableOf}
+use Rattle.table.specs.Words.{placeIn}
 use Rattle.table.proofs.Arithmetic.{times-eq}
-use Rattle.table.proofs.Suffix.{suffix, suffix-all, suffix-end, Turn, turn}
+use Rattle.table.proofs.Suffix.{suffix, suffix-all, suffix-end}
+use Rattle.table.proofs.Words.{Turn, turn}
 use Rattle.measures.specs.declared.PairCounts.{PairCounts}
 use Rattle.measures.specs.Pairs.{concordant, discordant}
 use Rattle.measures.specs.Measures.{pairCountsOf}
@@ -27,48 +29,54 @@ record Passed (p : Place) (i d c x : ℕ) (s : Survivors) : Type 0 where
   pub all-discordant : x ≡ discordant (suffix p i)
 
 abbrev Inv-loop : tie.InvT-loop
-Inv-loop obligors defaults announced grades i₀ d₀ s₀ c₀ x₀ i d s c x = Passed (withColumns obligors defaults announced grades) i d c x s
+Inv-loop place i₀ d₀ s₀ c₀ x₀ i d s c x = Passed (placeIn place) i d c x s
 
 abbrev μ-loop : tie.MeasureT-loop
-μ-loop obligors defaults announced grades i₀ d₀ s₀ c₀ x₀ i d s c x = i
+μ-loop place i₀ d₀ s₀ c₀ x₀ i d s c x = i
 
 loop-holds : tie.Need-loop-holds Inv-loop μ-loop
 unfolding defaultsIn survivorsIn concordant discordant
 loop-holds c =
-    let a = c .before .before .before .args in
-    let none = suffix-end (withColumns (now (a .obligors)) (now (a .defaults)) (now (a .announced)) (a .grades)) (a .grades) (omega arith) in
-    record { inside = omega arith; all-defaults = rw none; all-survivors = rw none; all-concordant = rw none; all-discordant = rw none }
+    let p = placeIn (now (c .before .before .args .place)) in
+    let none = suffix-end p (c .grades-of .result) (omega (arith, c .grades-of .ensures)) in
+    record {
+      inside = omega (arith, c .grades-of .ensures);
+      all-defaults = rw none;
+      all-survivors = rw none;
+      all-concordant = rw none;
+      all-discordant = rw none;
+    }
 
-at : (c : tie.In-loop Inv-loop μ-loop) →
-    let a = c .before .before .before .before .before .args in
-    Turn (withColumns (now (a .obligors)) (now (a .defaults)) (now (a .announced)) (a .grades)) (c .before .loop .i)
-at c = turn _ _ (c .before .before .before .before .before .pre .1) (c .loop-test .taken) (c .before .loop .inv .inside)
+at : (c : tie.In-loop Inv-loop μ-loop) → Turn (now (c .before .before .before .before .args .place)) (c .before .loop .i)
+at c = turn _ _ (c .before .before .before .before .pre) (c .loop-test .taken) (c .before .loop .inv .inside)
 
 -- The pairs that a turn adds.
 
 more-concordant : (c : tie.After-product Inv-loop μ-loop) →
     let l = c .before .before .before .before .before in
-    let a = l .before .before .before .before .args in
-    let p = withColumns (now (a .obligors)) (now (a .defaults)) (now (a .announced)) (a .grades) in
+    let p = placeIn (now (l .before .before .before .args .place)) in
     l .loop .concordant + c .product .result ≡ concordant (gradeAt p (l .loop .i - 1) ∷ suffix p (l .loop .i))
 unfolding concordant
 more-concordant c =
     let l = c .before .before .before .before .before in
-    let a = l .before .before .before .before .args in
-    let p = withColumns (now (a .obligors)) (now (a .defaults)) (now (a .announced)) (a .grades) in
+    let p = placeIn (now (l .before .before .before .args .place)) in
+    let f = at (c .before .before .before .before) in
+    let of-s : c .before .survivors .result .0 ≡ survivors (gradeAt p (l .loop .i - 1)) = omega (arith, c .before .survivors .ensures) in
     let d = times-eq (c .before .survivors .result .0) (l .loop .inv .all-defaults) in
-    let s = times-eq (defaultsIn (suffix p (l .loop .i))) (c .before .survivors .ensures) in
+    let s = times-eq (defaultsIn (suffix p (l .loop .i))) of-s in
     omega (arith, c .product .ensures)
 
 more-discordant : (c : tie.After-product2 Inv-loop μ-loop) →
     let l = c .before .before .before .before .before .before in
-    let a = l .before .before .before .before .args in
-    let p = withColumns (now (a .obligors)) (now (a .defaults)) (now (a .announced)) (a .grades) in
+    let p = placeIn (now (l .before .before .before .args .place)) in
     l .loop .discordant + c .product2 .result ≡ discordant (gradeAt p (l .loop .i - 1) ∷ suffix p (l .loop .i))
 unfolding discordant
 more-discordant c =
     let l = c .before .before .before .before .before .before in
-    let s = times-eq (getD (now (l .before .before .before .before .args .defaults)) (l .loop .i - 1) 0) (l .loop .inv .all-survivors) in
+    let w = now (l .before .before .before .args .place) in
+    let f = at (c .before .before .before .before .before) in
+    let d = times-eq (survivorsIn (suffix (placeIn w) (l .loop .i))) (f .defaults) in
+    let s = times-eq (getD w (40 + (l .loop .i - 1)) 0) (l .loop .inv .all-survivors) in
     omega (arith, c .product2 .ensures)
 
 add-defaulted : tie.Need-add-defaulted Inv-loop μ-loop
@@ -105,12 +113,14 @@ count-pairs-spec =
     (tie.spec
     Inv-loop
     μ-loop
+    (λ c κs. c .before .pre .long)
     loop-holds
     (λ c. search needs)
     (λ c. let f = at c in omega arith)
-    (λ c. let f = at (c .before) in omega (arith, c .before .before .before .before .before .before .pre .0))
+    (λ c. let f = at c in omega arith)
     (λ c. let f = at (c .before) in omega arith)
-    (λ c. let f = at (c .before .before) in omega (arith, c .before .before .before .before .before .before .before .pre .0))
+    (λ c. let f = at (c .before) in omega arith)
+    (λ c. let f = at (c .before .before) in omega arith)
     (λ c κs. let f = at (c .before .before) in omega arith)
     (λ c κs. search needs)
     (λ c. omega (arith, more-concordant c, few-pairs (at (c .before .before .before .before) .here)))

@@ -2,11 +2,12 @@
 use Prim.Native.Nat.{ℕ, suc, _+_, _-_, _*_, _≤_, _<_}
 use mathlib.Core.Path.{_≡_, _∙_}
 use mathlib.Core.Bool.{Bool, true, false, cond}
+use mathlib.Core.List.{List}
 use native.Mathlib.Nat.{sub-self, zero-mul}
 use native.Mathlib.Omega.{arith}
 use borrow.Author.Needs.{needs}
 use denote.Ref.{now}
-use lib.ListN.{length}
+use lib.ListN.{length, getD}
 use lib.IntN.{ℤ, pos, subℕ}
 use lib.Signed.{ltZ}
 use mir.Syntax.{w64}
@@ -15,9 +16,11 @@ use mir.ValLaws.{toZ-ofZ}
 use Rattle.table.specs.declared.Place.{Place}
 use Rattle.table.specs.declared.Survivors.{Survivors}
 use Rattle.table.specs.Table.{Table, Sound, survivors, defaultsIn, survivorsIn, obligorsIn}
-use Rattle.table.specs.Place.{gradeAt, tableOf, withColumns}
+use Rattle.table.specs.Place.{gradeAt, tableOf}
+use Rattle.table.specs.Words.{placeIn}
 use Rattle.table.proofs.Arithmetic.{counts-le}
-use Rattle.table.proofs.Suffix.{suffix, suffix-end, length-grades, Turn, turn, small, sound-small}
+use Rattle.table.proofs.Suffix.{suffix, suffix-end, length-grades, small, sound-small}
+use Rattle.table.proofs.Words.{Turn, turn}
 use Rattle.cutoff.specs.Best.{best}
 use Rattle.measures.specs.Measures.{height, higher, highestOf}
 use Rattle.measures.proofs.Pairs.{few-counts}
@@ -44,14 +47,16 @@ record Next (p : Place) (i y : ℕ) (x : Survivors) (a b : ℕ) : Type 0 where
   pub small-b : b ≤ 1_000_000_000_000
   pub here : subℕ a b ≡ height (tableOf p) (p .grades - (i - 1))
 
-next : {p : Place} {i y g h d n a b : ℕ} {x x′ s : Survivors} → Sound (tableOf p)
-    → (d ≡ defaultsIn (tableOf p)) × (s .0 ≡ survivorsIn (tableOf p)) → 0 < i → Turn p i → Tried p i y x g h
-    → n ≡ survivors (gradeAt p (i - 1)) → x′ .0 ≡ x .0 + n → a ≡ (y + gradeAt p (i - 1) .defaults) * s .0 → b ≡ x′ .0 * d
-    → Next p i (y + gradeAt p (i - 1) .defaults) x′ a b
+next : {w : List ℕ} {i y g h d n a b : ℕ} {x x′ s : Survivors} →
+    let p = placeIn w in
+    Sound (tableOf p) → (d ≡ defaultsIn (tableOf p)) × (s .0 ≡ survivorsIn (tableOf p)) → 0 < i → Turn w i → Tried p i y x g h
+    → n ≡ survivors (gradeAt p (i - 1)) → x′ .0 ≡ x .0 + n → a ≡ (y + getD w (40 + (i - 1)) 0) * s .0 → b ≡ x′ .0 * d
+    → Next p i (y + getD w (40 + (i - 1)) 0) x′ a b
 unfolding defaultsIn survivorsIn
-next {p} {i} {y} {g} {h} {d} {n} {a} {b} {x} {x′} {s} sound totals up f kept ofN ofX ofA ofB =
+next {w} {i} {y} {g} {h} {d} {n} {a} {b} {x} {x′} {s} sound totals up f kept ofN ofX ofA ofB =
+    let p = placeIn w in
     let inside : i - 1 ≤ p .grades = omega (arith, kept .inside) in
-    let caught : y + gradeAt p (i - 1) .defaults ≡ defaultsIn (suffix p (i - 1)) = rw (f .down) (omega (arith, kept .caught)) in
+    let caught : y + getD w (40 + (i - 1)) 0 ≡ defaultsIn (suffix p (i - 1)) = rw (f .down) (omega (arith, kept .caught)) in
     let lost : x′ .0 ≡ survivorsIn (suffix p (i - 1)) = rw (f .down) (omega (arith, kept .lost)) in
     let of-a : a ≡ defaultsIn (suffix p (i - 1)) * survivorsIn (tableOf p) = rw (← caught, ← totals .1) ofA in
     let of-b : b ≡ survivorsIn (suffix p (i - 1)) * defaultsIn (tableOf p) = rw (← lost, ← totals .0) ofB in
@@ -93,23 +98,21 @@ unfolding defaultsIn survivorsIn
 none t = rw (turned-none t, zero-mul (survivorsIn t), zero-mul (defaultsIn t))
 
 abbrev Inv-loop : tie.InvT-loop
-Inv-loop obligors defaults announced grades d s i₀ y₀ x₀ g₀ h₀ i y x g h = Tried (withColumns obligors defaults announced grades) i y x g h
+Inv-loop place d s grades i₀ y₀ x₀ g₀ h₀ i y x g h = Tried (placeIn place) i y x g h
 
 abbrev μ-loop : tie.MeasureT-loop
-μ-loop obligors defaults announced grades d s i₀ y₀ x₀ g₀ h₀ i y x g h = i
+μ-loop place d s grades i₀ y₀ x₀ g₀ h₀ i y x g h = i
 
 loop-holds : tie.Need-loop-holds Inv-loop μ-loop
 unfolding defaultsIn survivorsIn best
 loop-holds c =
-    let a = c .before .before .before .args in
-    let p = withColumns (now (a .obligors)) (now (a .defaults)) (now (a .announced)) (a .grades) in
+    let p = placeIn (now (c .before .before .args .place)) in
     let end = suffix-end p (p .grades) (omega arith) in
-    record { inside = omega arith; caught = rw end; lost = rw end; cutoff = rw sub-self; high = rw sub-self (none (tableOf p)) }
+    rw (c .grades-of .ensures)
+    (record { inside = omega arith; caught = rw end; lost = rw end; cutoff = rw sub-self; high = rw sub-self (none (tableOf p)) })
 
-at : (c : tie.In-loop Inv-loop μ-loop) →
-    let a = c .before .before .before .before .before .args in
-    Turn (withColumns (now (a .obligors)) (now (a .defaults)) (now (a .announced)) (a .grades)) (c .before .loop .i)
-at c = turn _ _ (c .before .before .before .before .before .pre .1 .0) (c .loop-test .taken) (c .before .loop .inv .inside)
+at : (c : tie.In-loop Inv-loop μ-loop) → Turn (now (c .before .before .before .before .args .place)) (c .before .loop .i)
+at c = turn _ _ (c .before .before .before .before .pre .0) (c .loop-test .taken) (c .before .loop .inv .inside)
 
 add-caught : tie.Need-add-caught Inv-loop μ-loop
 unfolding defaultsIn obligorsIn
@@ -121,24 +124,24 @@ plus-requires c κs = let f = at (c .before .before .before) in omega (arith, c 
 
 reached : (c : tie.After-product2 Inv-loop μ-loop) →
     let l = c .before .before .before .before .before .before .before in
-    let a = l .before .before .before .before .args in
-    let p = withColumns (now (a .obligors)) (now (a .defaults)) (now (a .announced)) (a .grades) in
-    Next p (l .loop .i) (l .loop .caught + gradeAt p (l .loop .i - 1) .defaults)
+    let w = now (l .before .before .before .args .place) in
+    Next (placeIn w) (l .loop .i) (l .loop .caught + getD w (40 + (l .loop .i - 1)) 0)
     (c .before .before .plus .result) (c .before .product .result) (c .product2 .result)
 reached c =
-    let l = c .before .before .before .before .before .before .before in
-    let pre = l .before .before .before .before .pre in
-    next (pre .1 .0) (pre .1 .1) (c .before .before .before .before .before .before .loop-test .taken)
-    (at (c .before .before .before .before .before .before)) (l .loop .inv)
-    (c .before .before .before .survivors .ensures) (c .before .before .plus .ensures) (c .before .product .ensures) (c .product2 .ensures)
+    let turn = c .before .before .before .before .before .before in
+    let l = turn .before in
+    let pre = l .before .before .before .pre in
+    let f = at turn in
+    next (pre .0 .sound) (pre .1) (turn .loop-test .taken) f (l .loop .inv)
+    (omega (arith, c .before .before .before .survivors .ensures)) (c .before .before .plus .ensures) (c .before .product .ensures) (c .product2 .ensures)
 
 difference-requires : tie.Need-difference-requires Inv-loop μ-loop
 difference-requires c κs = let n = reached c in (n .small-a, n .small-b)
 
 loop-again : tie.Need-loop-again Inv-loop μ-loop
 loop-again c =
-    taken (reached (c .before .before)) (c .before .before .before .before .before .before .before .before .before .loop .inv)
-    (c .before .difference .ensures) (c .if1 .taken)
+    let l = c .before .before .before .before .before .before .before .before .before in
+    rw (l .before .grades-of .ensures) (taken (reached (c .before .before)) (l .loop .inv) (c .before .difference .ensures) (c .if1 .taken))
 
 loop-again-2 : tie.Need-loop-again-2 Inv-loop μ-loop
 loop-again-2 c =
@@ -160,13 +163,15 @@ highest-spec =
     (tie.spec
     Inv-loop
     μ-loop
+    (λ c κs. c .before .pre .0 .long)
     loop-holds
     (λ c. search needs)
     (λ c. let f = at c in omega arith)
-    (λ c. let f = at (c .before) in omega (arith, c .before .before .before .before .before .before .pre .0))
+    (λ c. let f = at c in omega arith)
+    (λ c. let f = at (c .before) in omega arith)
     add-caught
     (λ c. let f = at (c .before) in omega arith)
-    (λ c. let f = at (c .before .before) in omega (arith, c .before .before .before .before .before .before .before .pre .0))
+    (λ c. let f = at (c .before .before) in omega arith)
     (λ c κs. let f = at (c .before .before) in omega arith)
     plus-requires
     (λ c κs. search needs)
