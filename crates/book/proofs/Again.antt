@@ -10,8 +10,8 @@ use lib.Seq.{drop-cons, drop-length}
 use Rattle.table.specs.Table.{Every}
 use Rattle.book.specs.Bytes.{Byte, byteAt, twoAt, fourAt, twoBytes, fourBytes}
 use Rattle.book.specs.Checks.{equal, fault}
-use Rattle.book.specs.Layout.{raters, startOf, gradesAt, kindAt, endOf, firstStart, leftoverFault, headChecks, tableChecks, tablesFrom, layoutFault}
-use Rattle.book.specs.Rows.{gradeIn, gradesIn, tableAt, tablesIn}
+use Rattle.book.specs.Layout.{raters, startOf, gradesAt, kindAt, endOf, firstStart, leftoverFault, headChecks, tableChecks, tablesFaultFrom, layoutFault}
+use Rattle.book.specs.Rows.{gradeIn, gradesIn, tableFrom, tablesIn}
 use Rattle.book.specs.Encode.{encodeGrade, encodeGrades, encodeTable, sizeOf, encodeTables, offsets, endsAt, encode}
 use Rattle.book.proofs.Checks.{held, held-first}
 use Rattle.book.proofs.Rows.{length-rows}
@@ -64,7 +64,7 @@ module _ (b : List ℕ) (h : Every Byte b) where
       grade-again i (i + 12) refl (omega arith)
       ∙ rw (rows-again k (i + 12) j (omega arith) l, append-assoc (encodeGrade (gradeIn b 0 i)))
 
-  table-again : (i : ℕ) → gradesAt b i ≤ 40 → kindAt b i ≡ 0 → twoAt b (i + 2) ≡ 0 → endOf b i ≤ length b → drop i b ≡ encodeTable (tableAt b i) ++ drop (endOf b i) b
+  table-again : (i : ℕ) → gradesAt b i ≤ 40 → kindAt b i ≡ 0 → twoAt b (i + 2) ≡ 0 → endOf b i ≤ length b → drop i b ≡ encodeTable (tableFrom b i) ++ drop (endOf b i) b
   unfolding twoAt
   table-again i few kind zeros l =
       let n = gradesAt b i in
@@ -79,7 +79,7 @@ record Here (b : List ℕ) (j at : ℕ) : Type 0 where
   pub few : gradesAt b at ≤ 40
   pub zeros : twoAt b (at + 2) ≡ 0
   pub inside : endOf b at ≤ length b
-  pub size : at + sizeOf (tableAt b at) ≡ endOf b at
+  pub size : at + sizeOf (tableFrom b at) ≡ endOf b at
 
 here : (b : List ℕ) (j at : ℕ) → fault (tableChecks b j at) ≡ 0 → Here b j at
 unfolding tableChecks
@@ -98,8 +98,8 @@ unfolding tablesIn
 count b j zero = refl
 count b j (suc k) = ap suc (count b (suc j) k)
 
-ends-again : (b : List ℕ) (k j at : ℕ) → tablesFrom b k j at ≡ 0 → endsAt at (tablesIn b j k) ≡ length b
-unfolding tablesFrom tablesIn endsAt
+ends-again : (b : List ℕ) (k j at : ℕ) → tablesFaultFrom b k j at ≡ 0 → endsAt at (tablesIn b j k) ≡ length b
+unfolding tablesFaultFrom tablesIn endsAt
 ends-again b zero j at e = held (equal at (length b) leftoverFault ∷ []) e .0
 ends-again b (suc k) j at e =
     let f = held-first _ _ e in
@@ -107,9 +107,9 @@ ends-again b (suc k) j at e =
     rw (t .start, t .size) (ends-again b k (suc j) (endOf b at) (f .1))
 
 module _ (b : List ℕ) (h : Every Byte b) where
-  offsets-again : (k j at : ℕ) → tablesFrom b k j at ≡ 0 → 2 + 2 * (j + k) ≤ length b
+  offsets-again : (k j at : ℕ) → tablesFaultFrom b k j at ≡ 0 → 2 + 2 * (j + k) ≤ length b
       → drop (2 + 2 * j) b ≡ offsets at (tablesIn b j k) ++ drop (2 + 2 * (j + k)) b
-  unfolding tablesFrom tablesIn offsets
+  unfolding tablesFaultFrom tablesIn offsets
   offsets-again zero j at e l = rw add-zero
   offsets-again (suc k) j at e l =
       let f = held-first _ _ e in
@@ -118,9 +118,9 @@ module _ (b : List ℕ) (h : Every Byte b) where
       two-again b h (2 + 2 * j) (2 + 2 * suc j) (omega arith) (omega arith)
       ∙ rw (t .start, t .size, n, offsets-again k (suc j) (endOf b at) (f .1) (omega arith)) (simp append-assoc)
 
-  tables-again : (k j at : ℕ) → tablesFrom b k j at ≡ 0 → ((i : ℕ) → j ≤ i → i < j + k → kindAt b (startOf b i) ≡ 0)
+  tables-again : (k j at : ℕ) → tablesFaultFrom b k j at ≡ 0 → ((i : ℕ) → j ≤ i → i < j + k → kindAt b (startOf b i) ≡ 0)
       → drop at b ≡ encodeTables (tablesIn b j k)
-  unfolding tablesFrom tablesIn encodeTables
+  unfolding tablesFaultFrom tablesIn encodeTables
   tables-again zero j at e kinds = rw (held (equal at (length b) leftoverFault ∷ []) e .0) (drop-length b)
   tables-again (suc k) j at e kinds =
       let f = held-first _ _ e in

@@ -8,7 +8,7 @@ use lib.Seq.{getD-append-add}
 use Rattle.table.specs.Table.{Table, Grade, Every, Counted, Rated, Sound, obligorsIn}
 use Rattle.book.specs.Bytes.{byteAt, twoAt, fourAt, twoBytes, fourBytes}
 use Rattle.book.specs.Layout.{gradesAt, kindAt}
-use Rattle.book.specs.Rows.{gradeIn, gradesIn, tableAt}
+use Rattle.book.specs.Rows.{gradeIn, gradesIn, tableFrom}
 use Rattle.book.specs.Encode.{encodeGrade, encodeGrades, encodeTable}
 use Rattle.book.proofs.Books.{length-grade}
 
@@ -61,13 +61,13 @@ rows-back (g ∷ t) w c r h =
     )
 
 -- the table t stands at `at`, with kind 0
-pub record TableAt (b : List ℕ) (at : ℕ) (t : Table) : Type 0 where
+pub record TableFrom (b : List ℕ) (at : ℕ) (t : Table) : Type 0 where
   pub grades : gradesAt b at ≡ length t
   pub kind : kindAt b at ≡ 0
   pub zeros : twoAt b (at + 2) ≡ 0
-  pub table : tableAt b at ≡ t
+  pub table : tableFrom b at ≡ t
 
-table-front : (t : Table) (w : List ℕ) → Sound t → TableAt (encodeTable t ++ w) 0 t
+table-front : (t : Table) (w : List ℕ) → Sound t → TableFrom (encodeTable t ++ w) 0 t
 unfolding encodeTable twoAt
 table-front t w s = record {
   grades = refl;
@@ -78,7 +78,7 @@ table-front t w s = record {
       ∙ rows-back t w (s .counted) (s .rated) (s .total);
 }
 
-pub table-back : (u : List ℕ) (t : Table) (w : List ℕ) (at : ℕ) → length u ≡ at → Sound t → TableAt (u ++ (encodeTable t ++ w)) at t
+pub table-back : (u : List ℕ) (t : Table) (w : List ℕ) (at : ℕ) → length u ≡ at → Sound t → TableFrom (u ++ (encodeTable t ++ w)) at t
 table-back u t w at e s =
     let v = encodeTable t ++ w in
     let h = table-front t w s in

@@ -1,20 +1,22 @@
 -- The bytes of a book: how many they are, and how they are stored part by part; and what a write of tables answers.
-use Prim.Native.Nat.{ℕ, _+_, _*_, _/_, _%_, _≤_, _<_}
+use Prim.Native.Nat.{ℕ, suc, _+_, _*_, _/_, _%_, _≤_, _<_}
 use mathlib.Core.Path.{_≡_, refl, ap, _∙_}
 use mathlib.Core.Bool.{Bool, cond}
-use mathlib.Core.List.{List, [], _∷_, _++_, append-nil}
+use mathlib.Core.List.{List, [], _∷_, _++_, append-nil, append-assoc}
 use native.Mathlib.Nat.{add-zero}
 use native.Mathlib.Omega.{arith}
 use lib.ListN.{length, drop, length-append}
 use Rattle.table.specs.declared.Place.{Place}
 use Rattle.table.specs.Table.{Table, Grade}
 use Rattle.table.specs.Place.{tableOf}
+use Rattle.table.specs.Words.{placeIn, tableIn, IsPlace}
 use Rattle.table.proofs.Suffix.{length-grades}
+use Rattle.table.proofs.Words.{few-grades, long-words}
 use Rattle.book.specs.declared.Written.{Written}
 use Rattle.book.specs.declared.Written.the-variants.{Length, Refused}
 use Rattle.book.specs.Bytes.{twoBytes, fourBytes, stored}
-use Rattle.book.specs.Encode.{encodeGrade, encodeGrades, encodeTable, encodeTables, offsets, endsAt, sizeOf, bookSize, encode}
-use Rattle.book.specs.Writing.{writeFault, lengthOr, bufferOr, tablesOf, Wrote}
+use Rattle.book.specs.Encode.{encodeGrade, encodeGrades, encodeTable, encodeHead, encodeTables, offsets, endsAt, sizeOf, bookSize, encode}
+use Rattle.book.specs.Writing.{Writable, writeFault, lengthOr, bufferOr, writeAnswer, bufferAfter, tablesOf}
 use Rattle.book.proofs.Checks.{found, none, pass, over}
 use Rattle.book.proofs.Stored.{stored-two, stored-three, stored-all}
 
@@ -51,13 +53,17 @@ pub length-encode : (ts : List Table) → length (encode ts) ≡ bookSize ts
 unfolding encode
 length-encode ts = simp (length-append, length-two, length-offsets) (omega (arith, length-tables (4 + 2 * length ts) ts))
 
-pub size-one : (p : Place) → 10 + 12 * p .grades ≡ bookSize (tableOf p ∷ [])
+pub size-one : (t : Table) → bookSize (t ∷ []) ≡ 6 + sizeOf t
 unfolding endsAt
-size-one p = omega (arith, length-grades p 0 (p .grades))
+size-one t = refl
 
-pub size-two : (p q : Place) → 12 + 12 * p .grades + 4 + 12 * q .grades ≡ bookSize (tableOf p ∷ tableOf q ∷ [])
+pub size-two : (t u : Table) → bookSize (t ∷ u ∷ []) ≡ 8 + sizeOf t + sizeOf u
 unfolding endsAt
-size-two p q = omega (arith, length-grades p 0 (p .grades), length-grades q 0 (q .grades))
+size-two t u = refl
+
+-- the table of a lent place has as many grades as the place says
+pub length-lent : (w : List ℕ) → length (tableIn w) ≡ placeIn w .grades
+length-lent w = length-grades (placeIn w) 0 (placeIn w .grades)
 
 -- Parts stored one after the other.
 
@@ -73,54 +79,66 @@ header t n e h =
     let high : n / 256 % 256 ≡ 0 = omega arith in
     rw (low, high)
 
-pub table-stored : (l : List ℕ) (at : ℕ) (p : Place) → p .grades ≤ 40
-    → stored (stored (stored l at (twoBytes (p .grades))) (at + 2) (twoBytes 0)) (at + 4) (encodeGrades (tableOf p)) ≡ stored l at (encodeTable (tableOf p))
+pub table-stored : (l : List ℕ) (at : ℕ) (t : Table) (n : ℕ) → length t ≡ n → n ≤ 40
+    → stored (stored (stored l at (twoBytes n)) (at + 2) (twoBytes 0)) (at + 4) (encodeGrades t) ≡ stored l at (encodeTable t)
 unfolding twoBytes
-table-stored l at p h =
-    stored-three (twoBytes (p .grades)) (twoBytes 0) (encodeGrades (tableOf p)) l at (at + 2) (at + 4) refl (omega arith)
-    ∙ rw (header (tableOf p) (p .grades) (length-grades p 0 (p .grades)) h)
+table-stored l at t n e h =
+    stored-three (twoBytes n) (twoBytes 0) (encodeGrades t) l at (at + 2) (at + 4) refl (omega arith) ∙ rw (header t n e h)
+
+pub head-stored : (l : List ℕ) (n size : ℕ)
+    → stored (stored (stored l 0 (twoBytes n)) 2 (twoBytes size)) 4 (twoBytes (4 + 2 * n)) ≡ stored l 0 (encodeHead n size)
+unfolding encodeHead twoBytes
+head-stored l n size = stored-three (twoBytes n) (twoBytes size) (twoBytes (4 + 2 * n)) l 0 2 4 refl refl
+
+length-head : (n size : ℕ) → 0 + length (encodeHead n size) ≡ 6
+unfolding encodeHead twoBytes
+length-head n size = refl
 
 pub one-stored : (l : List ℕ) (t : Table) (size : ℕ) → size ≡ bookSize (t ∷ [])
-    → stored (stored (stored (stored l 0 (twoBytes 1)) 2 (twoBytes size)) 4 (twoBytes 6)) 6 (encodeTable t) ≡ stored l 0 (encode (t ∷ []))
-unfolding encode offsets encodeTables twoBytes
+    → stored (stored l 0 (encodeHead 1 size)) 6 (encodeTable t) ≡ stored l 0 (encode (t ∷ []))
+unfolding encode encodeHead offsets encodeTables
 one-stored l t size e =
-    stored-two (twoBytes 6) (encodeTable t) (stored (stored l 0 (twoBytes 1)) 2 (twoBytes size)) 4 6 refl
-    ∙ stored-three (twoBytes 1) (twoBytes size) (twoBytes 6 ++ encodeTable t) l 0 2 4 refl refl
-    ∙ rw e (simp append-nil)
+    stored-two (encodeHead 1 size) (encodeTable t) l 0 6 (length-head 1 size) ∙ rw e (simp (append-nil, append-assoc))
 
-pub two-stored : (l : List ℕ) (t u : Table) (second size : ℕ) → second ≡ 8 + sizeOf t → size ≡ bookSize (t ∷ u ∷ [])
-    → stored (stored (stored (stored (stored (stored l 0 (twoBytes 2)) 2 (twoBytes size)) 4 (twoBytes 8)) 6 (twoBytes second)) 8 (encodeTable t)) second (encodeTable u)
+pub two-stored : (l : List ℕ) (t u : Table) (next size : ℕ) → next ≡ 8 + sizeOf t → size ≡ bookSize (t ∷ u ∷ [])
+    → stored (stored (stored (stored l 0 (encodeHead 2 size)) 6 (twoBytes next)) 8 (encodeTable t)) next (encodeTable u)
     ≡ stored l 0 (encode (t ∷ u ∷ []))
-unfolding encode offsets encodeTables twoBytes
-two-stored l t u second size s e =
-    stored-three (twoBytes second) (encodeTable t) (encodeTable u) (stored (stored (stored l 0 (twoBytes 2)) 2 (twoBytes size)) 4 (twoBytes 8)) 6 8 second refl (rw (length-table, s))
-    ∙ stored-two (twoBytes 8) (twoBytes second ++ (encodeTable t ++ encodeTable u)) (stored (stored l 0 (twoBytes 2)) 2 (twoBytes size)) 4 6 refl
-    ∙ stored-three (twoBytes 2) (twoBytes size) (twoBytes 8 ++ (twoBytes second ++ (encodeTable t ++ encodeTable u))) l 0 2 4 refl refl
-    ∙ rw (e, s) (simp append-nil)
+unfolding encode encodeHead offsets encodeTables
+two-stored l t u next size s e =
+    stored-three (twoBytes next) (encodeTable t) (encodeTable u) (stored l 0 (encodeHead 2 size)) 6 8 next (rw length-two) (rw (length-table, s))
+    ∙ stored-two (encodeHead 2 size) (twoBytes next ++ (encodeTable t ++ encodeTable u)) l 0 6 (length-head 2 size)
+    ∙ rw (e, s) (simp (append-nil, append-assoc))
 
 -- What a write leaves.
 
 book-stored : (ts : List Table) (buf : List ℕ) → bookSize ts ≤ length buf → stored buf 0 (encode ts) ≡ encode ts ++ drop (bookSize ts) buf
 book-stored ts buf h = let l = length-encode ts in stored-all (encode ts) buf (omega arith) ∙ rw l
 
+abbrev pub Wrote : List Table → List ℕ → Written → List ℕ → Type 0
+Wrote ts buf r after = (r ≡ writeAnswer ts (length buf)) × (after ≡ bufferAfter ts buf)
+
 module _ (ts : List Table) (buf : List ℕ) where
   pub fits : (r : Written) (after : List ℕ) → 1 ≤ length ts → bookSize ts ≤ length buf → r ≡ Length (bookSize ts) → after ≡ stored buf 0 (encode ts) → Wrote ts buf r after
   unfolding writeFault lengthOr bufferOr
   fits r after some h e f =
       let z : 0 ≡ writeFault ts (length buf) = found (pass some (pass h none)) in
-      record { answer = e ∙ rw (← z); buffer = f ∙ book-stored ts buf h ∙ rw (← z) }
+      (e ∙ rw (← z), f ∙ book-stored ts buf h ∙ rw (← z))
+
+  refuses : (n : ℕ) → suc n ≡ writeFault ts (length buf) → Wrote ts buf (Refused (suc n)) buf
+  unfolding lengthOr bufferOr
+  refuses n z = (rw (← z), rw (← z))
 
   pub short : 1 ≤ length ts → length buf < bookSize ts → Wrote ts buf (Refused 13) buf
-  unfolding writeFault lengthOr bufferOr
-  short some h =
-      let z : 13 ≡ writeFault ts (length buf) = found (pass some (over h)) in
-      record { answer = rw (← z); buffer = rw (← z) }
+  unfolding writeFault
+  short some h = refuses 12 (found (pass some (over h)))
 
 pub nothing : (buf : List ℕ) → Wrote [] buf (Refused 22) buf
-unfolding writeFault lengthOr bufferOr
-nothing buf =
-    let z : 22 ≡ writeFault [] (length buf) = found (over (omega arith)) in
-    record { answer = rw (← z); buffer = rw (← z) }
+unfolding writeFault
+nothing buf = refuses [] buf 21 (found (over (omega arith)))
+
+-- Every place that calls left can be written.
+pub writable : {w : List ℕ} → IsPlace w → Writable w
+writable i = record { long = long-words i; few = few-grades (i .sound) }
 
 -- The loaded places, where it is known which are.
 

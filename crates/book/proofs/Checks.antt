@@ -6,7 +6,7 @@ use mathlib.Core.List.{List, [], _∷_}
 use native.Mathlib.Omega.{arith}
 use borrow.Author.Tests.{le-leb, lt-leb, eq-eqb, ne-eqb, leb-true, eqb-true}
 use lib.Dec.{leb, eqb}
-use Rattle.book.specs.Checks.{Check, at-most, equal, fault, first}
+use Rattle.book.specs.Checks.{Check, at-most, equal, fault, firstFault}
 
 -- how the first fault is found
 pub data Finds : List Check → ℕ → Type 0 where
@@ -44,23 +44,23 @@ held (at-most a b (suc n) ∷ l) e = let s = split (leb a b) (fault l) n e in (l
 held (equal a b zero ∷ l) e = tt
 held (equal a b (suc n) ∷ l) e = let s = split (eqb a b) (fault l) n e in (eqb-true a b (s .0), held l (s .1))
 
-pub first-none : (n m : ℕ) → n ≡ 0 → first n m ≡ m
-unfolding first
+pub first-none : (n m : ℕ) → n ≡ 0 → firstFault n m ≡ m
+unfolding firstFault
 first-none n m h = rw h
 
-pub first-some : (n m : ℕ) → (n ≡ 0 → ⊥) → first n m ≡ n
-unfolding first
+pub first-some : (n m : ℕ) → (n ≡ 0 → ⊥) → firstFault n m ≡ n
+unfolding firstFault
 first-some zero m h = absurd (h refl)
 first-some (suc n) m h = refl
 
 -- how the first of two faults is found
-pub stop : {n m : ℕ} (rest : ℕ) → n ≡ m → (n ≡ 0 → ⊥) → n ≡ first m rest
+pub stop : {n m : ℕ} (rest : ℕ) → n ≡ m → (n ≡ 0 → ⊥) → n ≡ firstFault m rest
 stop rest e k = rw (← e) (sym (first-some _ rest k))
 
-pub go : {n m rest : ℕ} → m ≡ 0 → n ≡ rest → n ≡ first m rest
+pub go : {n m rest : ℕ} → m ≡ 0 → n ≡ rest → n ≡ firstFault m rest
 go z e = e ∙ sym (first-none _ _ z)
 
-pub held-first : (n m : ℕ) → first n m ≡ 0 → (n ≡ 0) × (m ≡ 0)
-unfolding first
+pub held-first : (n m : ℕ) → firstFault n m ≡ 0 → (n ≡ 0) × (m ≡ 0)
+unfolding firstFault
 held-first zero m h = (refl, h)
 held-first (suc n) m h = absurd (omega arith)

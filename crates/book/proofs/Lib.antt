@@ -1,10 +1,10 @@
 pub mod Checks
 pub mod Rows
-pub mod Answers
 pub mod Stands
 pub mod Faultless
 pub mod Accept
 pub mod Stored
+pub mod Filled
 pub mod Books
 pub mod Back
 pub mod RoundTrip

@@ -9,20 +9,19 @@ use lib.ListN.{length, getD, take, length-append}
 use lib.Seq.{take-at}
 use Rattle.table.specs.declared.Place.{Place}
 use Rattle.table.specs.Table.{Table, Every, Sound}
-use Rattle.table.specs.Place.{tableOf, placeOf}
+use Rattle.table.specs.Place.{tableOf}
 use Rattle.book.specs.declared.Written.the-variants.{Length}
-use Rattle.book.specs.declared.Ack.the-variants.{Done}
 use Rattle.book.specs.Bytes.{twoAt, twoBytes}
 use Rattle.book.specs.Checks.{fault}
-use Rattle.book.specs.Layout.{raters, startOf, endOf, headChecks, raterChecks, tableChecks, tablesFrom, tablesFault}
-use Rattle.book.specs.Rows.{tableIn, tableFault}
-use Rattle.book.specs.Reading.{readFault, reading, answer}
+use Rattle.book.specs.Layout.{raters, startOf, endOf, headChecks, raterChecks, tableChecks, tablesFaultFrom, tablesFault}
+use Rattle.book.specs.Rows.{tableOfRater, tableFault}
+use Rattle.book.specs.Reading.{readFault}
 use Rattle.book.specs.Encode.{encodeTable, encodeTables, offsets, endsAt, sizeOf, bookSize, encode}
-use Rattle.book.specs.Writing.{writeFault, lengthOr, bufferOr, written, bufferAfter, tablesOf}
+use Rattle.book.specs.Writing.{writeFault, lengthOr, bufferOr, writeAnswer, bufferAfter, tablesOf}
 use Rattle.book.proofs.Checks.{found, none, pass, same, go}
 use Rattle.book.proofs.Faultless.{sound-faultless}
 use Rattle.book.proofs.Books.{length-two, length-table, length-offsets, length-tables, length-encode, chosen}
-use Rattle.book.proofs.Back.{two-shift, two-back, TableAt, table-back}
+use Rattle.book.proofs.Back.{two-shift, two-back, TableFrom, table-back}
 
 -- The tables of raters j and on in a book b: their offsets, the first being `at`, and they themselves from there to the end.
 
@@ -51,7 +50,7 @@ next b j at t ts s = record {
 
 record Front (b : List ℕ) (j at : ℕ) (t : Table) : Type 0 where
   pub start : startOf b j ≡ at
-  pub here : TableAt b at t
+  pub here : TableFrom b at t
   pub room : at + sizeOf t ≤ length b
 
 front : (b : List ℕ) (j at : ℕ) (t : Table) (ts : List Table) → Tail b j at (t ∷ ts) → Sound t → Front b j at t
@@ -78,8 +77,8 @@ faultless b j at t f sound =
     (pass (omega arith)
     (pass (omega arith) (pass (omega arith) (same (h .zeros) (pass (omega arith) none))))))))
 
-walk : (ts : List Table) (b : List ℕ) (j at : ℕ) → Tail b j at ts → Every Sound ts → 0 ≡ tablesFrom b (length ts) j at
-unfolding tablesFrom encodeTables
+walk : (ts : List Table) (b : List ℕ) (j at : ℕ) → Tail b j at ts → Every Sound ts → 0 ≡ tablesFaultFrom b (length ts) j at
+unfolding tablesFaultFrom encodeTables
 walk [] b j at s sound = found (same (omega (arith, simp (length-append, add-zero) at (ap length (s .body)), s .body-at)) none)
 walk (t ∷ ts) b j at s sound =
     let f = front b j at t ts s (sound .0) in
@@ -87,7 +86,7 @@ walk (t ∷ ts) b j at s sound =
     let e : endOf b at ≡ at + sizeOf t = omega arith in
     go (faultless b j at t f (sound .0)) (rw e (walk ts b (suc j) (at + sizeOf t) (next b j at t ts s) (sound .1)))
 
-pick : (ts : List Table) (b : List ℕ) (j at m : ℕ) → Tail b j at ts → Every Sound ts → m < length ts → (tableIn b (j + m) ≡ getD ts m []) × Sound (getD ts m [])
+pick : (ts : List Table) (b : List ℕ) (j at m : ℕ) → Tail b j at ts → Every Sound ts → m < length ts → (tableOfRater b (j + m) ≡ getD ts m []) × Sound (getD ts m [])
 pick [] b j at m s sound h = absurd (omega arith)
 pick (t ∷ ts) b j at zero s sound h =
     let f = front b j at t ts s (sound .0) in
@@ -145,14 +144,13 @@ module _ (ts : List Table) (few : length ts ≤ 16) (sound : Every Sound ts) whe
     laid = rw count (sym (walk ts (encode ts) 1 (4 + 2 * length ts) whole sound))
 
     -- Rater j of a book of sound tables is read, and is the j-th of them.
-    pub read-back : reading (encode ts) j ≡ record { place = placeOf (getD ts (j - 1) []); ack = Done }
-    unfolding readFault answer
+    pub read-back : (readFault (encode ts) j ≡ 0) × (tableOfRater (encode ts) j ≡ getD ts (j - 1) [])
+    unfolding readFault
     read-back =
         let e : 1 + (j - 1) ≡ j = omega arith in
         let p = rw e at (pick ts (encode ts) 1 (4 + 2 * length ts) (j - 1) whole sound (omega arith)) in
-        let f : tableFault (tableIn (encode ts) j) ≡ 0 = rw (p .0) (sound-faultless _ (p .1)) in
-        let z : 0 ≡ readFault (encode ts) j = go headed (go asked (go laid (sym f))) in
-        rw (← z, p .0)
+        let f : tableFault (tableOfRater (encode ts) j) ≡ 0 = rw (p .0) (sound-faultless _ (p .1)) in
+        (sym (go headed (go asked (go laid (sym f)))), p .0)
 
 -- What a write leaves.
 
@@ -162,7 +160,7 @@ length-is zero n ts e = (refl, (cc))
 length-is (suc k) n ts e = let z : _≡_ {A = ℕ} 0 1 = cc in absurd (omega arith)
 
 -- the first n bytes are the book
-book-written : (ts : List Table) (buf : List ℕ) (n : ℕ) → written ts buf ≡ Length n → take n (bufferAfter ts buf) ≡ encode ts
+book-written : (ts : List Table) (buf : List ℕ) (n : ℕ) → writeAnswer ts (length buf) ≡ Length n → take n (bufferAfter ts buf) ≡ encode ts
 unfolding bufferOr
 book-written ts buf n e =
     let k = length-is (writeFault ts (length buf)) n ts e in
@@ -175,8 +173,9 @@ chosen-sound p q false true f g = ((g refl, tt), omega arith)
 chosen-sound p q false false f g = (tt, omega arith)
 
 pub round-trip : (p q : Place) → (p .loaded ≡ true → Sound (tableOf p)) → (q .loaded ≡ true → Sound (tableOf q))
-    → (buf : List ℕ) (n : ℕ) → written (tablesOf p q) buf ≡ Length n → (j : ℕ) → 1 ≤ j → j ≤ length (tablesOf p q)
-    → reading (take n (bufferAfter (tablesOf p q) buf)) j ≡ record { place = placeOf (getD (tablesOf p q) (j - 1) []); ack = Done }
+    → (buf : List ℕ) (n : ℕ) → writeAnswer (tablesOf p q) (length buf) ≡ Length n → (j : ℕ) → 1 ≤ j → j ≤ length (tablesOf p q)
+    → (readFault (take n (bufferAfter (tablesOf p q) buf)) j ≡ 0)
+    × (tableOfRater (take n (bufferAfter (tablesOf p q) buf)) j ≡ getD (tablesOf p q) (j - 1) [])
 round-trip p q f g buf n e j from to =
     let s = chosen-sound p q (p .loaded) (q .loaded) f g in
     rw (book-written (tablesOf p q) buf n e) (read-back (tablesOf p q) (s .1) (s .0) j from to)

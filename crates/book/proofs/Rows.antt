@@ -9,10 +9,10 @@ use borrow.Author.Tests.{le-leb, lt-leb, leb-true, leb-false}
 use lib.Dec.{leb}
 use lib.ListN.{length}
 use Rattle.table.specs.Table.{Table, Grade, obligorsIn}
-use Rattle.table.specs.Counts.{largest, held}
+use Rattle.table.specs.Counts.{largest, capped}
 use Rattle.book.specs.Checks.{fault}
 use Rattle.book.specs.Rows.{gradeIn, gradesIn, rowChecks, rowsFault, totalChecks, tableFault}
-use Rattle.book.specs.Reading.{heldGrade}
+use Rattle.book.specs.Reading.{cappedGrade}
 use Rattle.book.proofs.Checks.{first-none, first-some}
 
 -- Rows read, and rows to come.
@@ -39,35 +39,35 @@ rows-more b kind (suc i) at =
 
 -- Rows as 32 bits hold them: a count that they cannot hold has the same faults, and takes the total over the limit.
 
-abbrev pub heldTable : Table → Table
-heldTable t = map heldGrade t
+abbrev pub cappedTable : Table → Table
+cappedTable t = map cappedGrade t
 
-pub held-more : (t u : Table) → heldTable (t ++ u) ≡ heldTable t ++ heldTable u
-held-more [] u = refl
-held-more (g ∷ t) u = ap (λ (l : Table). heldGrade g ∷ l) (held-more t u)
+pub capped-more : (t u : Table) → cappedTable (t ++ u) ≡ cappedTable t ++ cappedTable u
+capped-more [] u = refl
+capped-more (g ∷ t) u = ap (λ (l : Table). cappedGrade g ∷ l) (capped-more t u)
 
-pub held-le : (t : Table) → obligorsIn (heldTable t) ≤ obligorsIn t
+pub capped-le : (t : Table) → obligorsIn (cappedTable t) ≤ obligorsIn t
 unfolding obligorsIn
-held-le [] = omega arith
-held-le (g ∷ t) = omega (arith, held-le t)
+capped-le [] = omega arith
+capped-le (g ∷ t) = omega (arith, capped-le t)
 
-pub held-exact : (t : Table) → obligorsIn (heldTable t) ≤ 1_000_000 → heldTable t ≡ t
+pub capped-exact : (t : Table) → obligorsIn (cappedTable t) ≤ 1_000_000 → cappedTable t ≡ t
 unfolding obligorsIn
-held-exact [] h = refl
-held-exact (g ∷ t) h =
-    let e : held (g .obligors) ≡ g .obligors = omega arith in
-    rw (e, held-exact t (omega arith))
+capped-exact [] h = refl
+capped-exact (g ∷ t) h =
+    let e : capped (g .obligors) ≡ g .obligors = omega arith in
+    rw (e, capped-exact t (omega arith))
 
 leb-same : (a b c d : ℕ) (t : Bool) → leb a b ≡ t → (a ≤ b → c ≤ d) → (b < a → d < c) → leb a b ≡ leb c d
 leb-same a b c d true e f g = e ∙ sym (le-leb c d (f (leb-true a b e)))
 leb-same a b c d false e f g = e ∙ sym (lt-leb c d (g (leb-false a b e)))
 
-pub held-fault : (g : Grade) → g .defaults ≤ largest → fault (rowChecks (heldGrade g)) ≡ fault (rowChecks g)
+pub capped-fault : (g : Grade) → g .defaults ≤ largest → fault (rowChecks (cappedGrade g)) ≡ fault (rowChecks g)
 unfolding fault rowChecks
-held-fault g h =
+capped-fault g h =
     rw (
-      leb-same (g .defaults) (held (g .obligors)) (g .defaults) (g .obligors) _ refl (λ l. omega arith) (λ l. omega arith),
-      leb-same 1 (held (g .obligors)) 1 (g .obligors) _ refl (λ l. omega arith) (λ l. omega arith),
+      leb-same (g .defaults) (capped (g .obligors)) (g .defaults) (g .obligors) _ refl (λ l. omega arith) (λ l. omega arith),
+      leb-same 1 (capped (g .obligors)) 1 (g .obligors) _ refl (λ l. omega arith) (λ l. omega arith),
     )
 
 -- The fault of a table is that of its rows, and if they have none that of its total.

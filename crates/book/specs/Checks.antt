@@ -17,6 +17,6 @@ fault (at-most a b n ∷ l) = cond (leb a b) (fault l) n
 fault (equal a b n ∷ l) = cond (eqb a b) (fault l) n
 
 -- the first of two faults, 0 being none
-unfoldable pub first : ℕ → ℕ → ℕ
-first zero m = m
-first (suc n) m = suc n
+unfoldable pub firstFault : ℕ → ℕ → ℕ
+firstFault zero m = m
+firstFault (suc n) m = suc n

@@ -4,7 +4,7 @@ use Prim.Native.Nat.{ℕ, zero, suc, _+_, _*_}
 use mathlib.Core.List.{List, [], _∷_}
 use lib.ListN.{length}
 use Rattle.book.specs.Bytes.{byteAt, twoAt}
-use Rattle.book.specs.Checks.{Check, at-most, equal, fault, first}
+use Rattle.book.specs.Checks.{Check, at-most, equal, fault, firstFault}
 
 -- The three faults of number 5: a table does not start where the one before ended, runs past the end, or bytes follow the last.
 abbrev pub startFault : ℕ
@@ -63,13 +63,13 @@ tableChecks b j at =
     ∷ []
 
 -- k tables, from that of rater j on, and then nothing
-unfoldable pub tablesFrom : List ℕ → ℕ → ℕ → ℕ → ℕ
-tablesFrom b zero j at = fault (equal at (length b) leftoverFault ∷ [])
-tablesFrom b (suc k) j at = first (fault (tableChecks b j at)) (tablesFrom b k (suc j) (endOf b at))
+unfoldable pub tablesFaultFrom : List ℕ → ℕ → ℕ → ℕ → ℕ
+tablesFaultFrom b zero j at = fault (equal at (length b) leftoverFault ∷ [])
+tablesFaultFrom b (suc k) j at = firstFault (fault (tableChecks b j at)) (tablesFaultFrom b k (suc j) (endOf b at))
 
 abbrev pub tablesFault : List ℕ → ℕ
-tablesFault b = tablesFrom b (raters b) 1 (firstStart b)
+tablesFault b = tablesFaultFrom b (raters b) 1 (firstStart b)
 
 -- the whole layout, whoever's table is wanted
 unfoldable pub layoutFault : List ℕ → ℕ
-layoutFault b = first (fault (headChecks b)) (tablesFault b)
+layoutFault b = firstFault (fault (headChecks b)) (tablesFault b)

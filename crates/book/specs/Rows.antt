@@ -5,7 +5,7 @@ use mathlib.Core.List.{List, [], _∷_}
 use lib.Dec.{eqb}
 use Rattle.table.specs.Table.{Table, Grade, obligorsIn}
 use Rattle.book.specs.Bytes.{fourAt}
-use Rattle.book.specs.Checks.{Check, at-most, fault, first}
+use Rattle.book.specs.Checks.{Check, at-most, fault, firstFault}
 use Rattle.book.specs.Layout.{startOf, gradesAt, kindAt}
 
 -- n as the kind says: the first column, or first column + defaults
@@ -27,17 +27,17 @@ gradesIn b kind zero at = []
 gradesIn b kind (suc k) at = gradeIn b kind at ∷ gradesIn b kind k (at + 12)
 
 -- the table that starts at byte `at`
-abbrev pub tableAt : List ℕ → ℕ → Table
-tableAt b at = gradesIn b (kindAt b at) (gradesAt b at) (at + 4)
+abbrev pub tableFrom : List ℕ → ℕ → Table
+tableFrom b at = gradesIn b (kindAt b at) (gradesAt b at) (at + 4)
 
 -- the table of rater j
-abbrev pub tableIn : List ℕ → ℕ → Table
-tableIn b j = tableAt b (startOf b j)
+abbrev pub tableOfRater : List ℕ → ℕ → Table
+tableOfRater b j = tableFrom b (startOf b j)
 
 -- the tables of k raters, from that of rater j on
 unfoldable pub tablesIn : List ℕ → ℕ → ℕ → List Table
 tablesIn b j zero = []
-tablesIn b j (suc k) = tableIn b j ∷ tablesIn b (suc j) k
+tablesIn b j (suc k) = tableOfRater b j ∷ tablesIn b (suc j) k
 
 -- One row. Of kind 1 the first check never fails: n is first column + defaults.
 unfoldable pub rowChecks : Grade → List Check
@@ -50,11 +50,11 @@ rowChecks g =
 -- row by row
 unfoldable pub rowsFault : Table → ℕ
 rowsFault [] = 0
-rowsFault (g ∷ t) = first (fault (rowChecks g)) (rowsFault t)
+rowsFault (g ∷ t) = firstFault (fault (rowChecks g)) (rowsFault t)
 
 -- the checks after the last row
 unfoldable pub totalChecks : Table → List Check
 totalChecks t = at-most (obligorsIn t) 1_000_000 11 ∷ []
 
 unfoldable pub tableFault : Table → ℕ
-tableFault t = first (rowsFault t) (fault (totalChecks t))
+tableFault t = firstFault (rowsFault t) (fault (totalChecks t))

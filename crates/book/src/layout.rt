@@ -1,68 +1,89 @@
-// The checks of a book's layout: each answers 0, or the number of the first fault.
+// The layout of a book and its checks: each check answers 0, or the number of the first fault.
 ghost use Prim.Native.Nat.{_+_, _*_, _≤_};
 ghost use mathlib.Core.Path.{_≡_};
 ghost use lib.ListN.{length};
 ghost use Rattle.book.specs.Checks.{fault};
-ghost use Rattle.book.specs.Layout.{headChecks, tableChecks, tablesFault, layoutFault};
+ghost use Rattle.book.specs.Layout.{startOf, headChecks, tableChecks, tablesFault};
 use crate::bytes::byte_at;
 use crate::bytes::two_at;
+use refusals::BOOK_LENGTH;
+use refusals::COLUMN_KIND;
+use refusals::GRADE_COUNT;
+use refusals::LEFTOVER;
+use refusals::RATER_COUNT;
+use refusals::TABLE_END;
+use refusals::TABLE_START;
+use table::GRADES;
 
-// The three faults of number 5.
-const START_FAULT: u32 = 5;
+// The bytes of a book's head, of an offset, of a table's head and of a row.
+pub const HEAD: usize = 4;
 
-const END_FAULT: u32 = 5;
+pub const OFFSET: usize = 2;
 
-const LEFTOVER_FAULT: u32 = 5;
+pub const TABLE_HEAD: usize = 4;
+
+pub const ROW: usize = 12;
+
+// The most raters of a book.
+const RATERS: usize = 16;
+
+// Where the table of rater j starts.
+pub fn start_of(b: &[u8], j: usize) -> usize
+    requires { ⌜ (1 ≤ j) × (4 + 2 * j ≤ length (now b)) ⌝ }
+    ensures { λ r. ⌜ r ≡ startOf (now (b .entry)) j ⌝ }
+{
+    two_at(b, HEAD + OFFSET * (j - 1))
+}
 
 // The length of the book, and the number of raters.
 pub fn head_fault(b: &[u8]) -> u32
     ensures { λ r. ⌜ r ≡ fault (headChecks (now (b .entry))) ⌝ }
 {
-    if b.len() < 4 {
-        return 2;
+    if b.len() < HEAD {
+        return BOOK_LENGTH;
     }
     if two_at(b, 2) != b.len() {
-        return 2;
+        return BOOK_LENGTH;
     }
     let raters = two_at(b, 0);
     if raters < 1 {
-        return 3;
+        return RATER_COUNT;
     }
-    if 16 < raters {
-        return 3;
+    if RATERS < raters {
+        return RATER_COUNT;
     }
-    if b.len() < 4 + 2 * raters {
-        return 3;
+    if b.len() < HEAD + OFFSET * raters {
+        return RATER_COUNT;
     }
     0
 }
 
 // The table of rater j, where the one before ended at `at`.
 fn table_fault(b: &[u8], j: usize, at: usize) -> u32
-    requires { ⌜ (4 + 2 * j ≤ length (now b)) × (at ≤ length (now b)) ⌝ }
+    requires { ⌜ (1 ≤ j) × (4 + 2 * j ≤ length (now b)) × (at ≤ length (now b)) ⌝ }
     ensures { λ r. ⌜ r ≡ fault (tableChecks (now (b .entry)) j at) ⌝ }
 {
-    if two_at(b, 2 + 2 * j) != at {
-        return START_FAULT;
+    if start_of(b, j) != at {
+        return TABLE_START;
     }
-    if b.len() - at < 4 {
-        return END_FAULT;
+    if b.len() - at < TABLE_HEAD {
+        return TABLE_END;
     }
     let grades = byte_at(b, at);
     if grades < 1 {
-        return 6;
+        return GRADE_COUNT;
     }
-    if 40 < grades {
-        return 6;
+    if GRADES < grades {
+        return GRADE_COUNT;
     }
     if 1 < byte_at(b, at + 1) {
-        return 7;
+        return COLUMN_KIND;
     }
     if two_at(b, at + 2) != 0 {
-        return 7;
+        return COLUMN_KIND;
     }
-    if b.len() < at + 4 + 12 * grades {
-        return END_FAULT;
+    if b.len() < at + TABLE_HEAD + ROW * grades {
+        return TABLE_END;
     }
     0
 }
@@ -73,26 +94,15 @@ pub fn tables_fault(b: &[u8]) -> u32
     ensures { λ r. ⌜ r ≡ tablesFault (now (b .entry)) ⌝ }
 {
     let raters = two_at(b, 0);
-    let mut at = 4 + 2 * raters;
+    let mut at = HEAD + OFFSET * raters;
     let mut j: usize = 0;
     while j < raters {
         let n = table_fault(b, j + 1, at);
         if n != 0 {
             return n;
         }
-        at = at + 4 + 12 * byte_at(b, at);
+        at = at + TABLE_HEAD + ROW * byte_at(b, at);
         j += 1;
     }
-    if at == b.len() { 0 } else { LEFTOVER_FAULT }
-}
-
-// The whole layout, whoever's table is wanted.
-pub fn layout_fault(b: &[u8]) -> u32
-    ensures { λ r. ⌜ r ≡ layoutFault (now (b .entry)) ⌝ }
-{
-    let n = head_fault(b);
-    if n != 0 {
-        return n;
-    }
-    tables_fault(b)
+    if at == b.len() { 0 } else { LEFTOVER }
 }

@@ -4,27 +4,13 @@ mod layout;
 mod reader;
 mod writer;
 
-pub use layout::layout_fault;
-pub use reader::read;
+pub use layout::head_fault;
+pub use layout::tables_fault;
 pub use reader::read_fault;
-pub use reader::read_table;
-pub use reader::read_words;
+pub use reader::rows_fault;
+pub use reader::store;
 use table::Obligors;
-use table::Place;
 pub use writer::write;
-pub use writer::write_in;
-
-// The answer of a call that answers nothing further when it is accepted.
-pub enum Ack {
-    Done,
-    Refused(u32),
-}
-
-// A table that was read, in a place; the place is empty where the reading was refused.
-pub struct Reading {
-    pub place: Place,
-    pub ack: Ack,
-}
 
 // The length of the book that was written, or a refusal number.
 pub enum Written {

@@ -1,19 +1,33 @@
-// Writing tables as a book of kind 0.
+// Writing the tables of lent places as a book of kind 0.
 ghost use Prim.Native.Nat.{_+_, _*_, _≤_};
 ghost use mathlib.Core.Path.{_≡_};
 ghost use mathlib.Core.List.{[], _∷_};
 ghost use lib.ListN.{length};
-ghost use Rattle.table.specs.Place.{tableOf, lentPlace, withColumns};
+ghost use Rattle.table.specs.Words.{placeIn, tableIn};
 ghost use Rattle.book.specs.Bytes.{stored};
 ghost use Rattle.book.specs.Reading.{gradeOf};
-ghost use Rattle.book.specs.Encode.{encodeGrade, encodeGrades, encodeTable};
-ghost use Rattle.book.specs.Writing.{tablesOf, Wrote};
+ghost use Rattle.book.specs.Encode.{encodeGrade, encodeGrades, encodeTable, encodeHead, sizeOf};
+ghost use Rattle.book.specs.Writing.{Writable, lentTables, writeAnswer, bufferAfter};
 use crate::Row;
 use crate::Written;
 use crate::bytes::put_four;
 use crate::bytes::put_two;
+use crate::layout::HEAD;
+use crate::layout::OFFSET;
+use crate::layout::ROW;
+use crate::layout::TABLE_HEAD;
+use refusals::PLACE_EMPTY;
+use refusals::SHORT_BUFFER;
+use table::ANNOUNCED;
+use table::DEFAULTS;
 use table::Obligors;
-use table::Place;
+use table::grades_of;
+use table::is_loaded;
+
+// Where one offset ends behind a book's head, and where two do.
+const ONE_OFFSET: usize = HEAD + OFFSET;
+
+const TWO_OFFSETS: usize = HEAD + 2 * OFFSET;
 
 // Stores the 12 bytes of a row from `at` on.
 fn put_row(out: &mut [u8], at: usize, r: Row)
@@ -25,175 +39,107 @@ fn put_row(out: &mut [u8], at: usize, r: Row)
     put_four(out, at + 8, r.announced);
 }
 
-// Stores the rows of the table with these columns from `start` on.
-fn put_rows<'a>(
-    out: &mut [u8],
-    start: usize,
-    obligors: &'a [u32],
-    defaults: &'a [u32],
-    announced: &'a [u32],
-    grades: usize,
-)
-    requires long { ⌜ (grades ≤ length (now obligors)) × (grades ≤ length (now defaults)) × (grades ≤ length (now announced)) ⌝ }
-    requires room { ⌜ (start + 12 * grades ≤ length (now out)) × (grades ≤ 40) ⌝ }
-    ensures { λ _. ⌜ now (out .exit)
-        ≡ stored (now (out .entry)) start (encodeGrades (tableOf (withColumns (now (obligors .entry)) (now (defaults .entry)) (now (announced .entry)) grades))) ⌝ }
+// Stores the rows of the table in a lent place from `start` on.
+fn put_rows(out: &mut [u8], start: usize, place: &[u32])
+    requires writable { ⌜ Writable (now place) ⌝ }
+    requires room { ⌜ start + 12 * placeIn (now place) .grades ≤ length (now out) ⌝ }
+    ensures { λ _. ⌜ now (out .exit) ≡ stored (now (out .entry)) start (encodeGrades (tableIn (now (place .entry)))) ⌝ }
 {
+    let grades = grades_of(place);
     let mut at = start;
     let mut i: usize = 0;
     while i < grades {
         let row = Row {
-            obligors: Obligors(obligors[i]),
-            defaults: defaults[i],
-            announced: announced[i],
+            obligors: Obligors(place[i]),
+            defaults: place[DEFAULTS + i],
+            announced: place[ANNOUNCED + i],
         };
         put_row(out, at, row);
-        at += 12;
+        at += ROW;
         i += 1;
     }
 }
 
-// Stores the table with these columns from `at` on.
-fn put_table<'a>(
-    out: &mut [u8],
-    at: usize,
-    obligors: &'a [u32],
-    defaults: &'a [u32],
-    announced: &'a [u32],
-    grades: usize,
-)
-    requires long { ⌜ (grades ≤ length (now obligors)) × (grades ≤ length (now defaults)) × (grades ≤ length (now announced)) ⌝ }
-    requires room { ⌜ (at + 4 + 12 * grades ≤ length (now out)) × (grades ≤ 40) ⌝ }
-    ensures { λ _. ⌜ now (out .exit)
-        ≡ stored (now (out .entry)) at (encodeTable (tableOf (withColumns (now (obligors .entry)) (now (defaults .entry)) (now (announced .entry)) grades))) ⌝ }
+// Stores that table from `at` on.
+fn put_table(out: &mut [u8], at: usize, place: &[u32])
+    requires writable { ⌜ Writable (now place) ⌝ }
+    requires room { ⌜ at + sizeOf (tableIn (now place)) ≤ length (now out) ⌝ }
+    ensures { λ _. ⌜ now (out .exit) ≡ stored (now (out .entry)) at (encodeTable (tableIn (now (place .entry)))) ⌝ }
 {
-    put_two(out, at, grades);
+    put_two(out, at, grades_of(place));
     put_two(out, at + 2, 0);
-    put_rows(out, at + 4, obligors, defaults, announced, grades);
+    put_rows(out, at + TABLE_HEAD, place);
 }
 
-// A book of the table with these columns.
-fn write_one_in<'a>(
-    obligors: &'a [u32],
-    defaults: &'a [u32],
-    announced: &'a [u32],
-    grades: usize,
-    out: &mut [u8],
-) -> Written
-    requires long { ⌜ (grades ≤ length (now obligors)) × (grades ≤ length (now defaults)) × (grades ≤ length (now announced)) ⌝ }
-    requires few { ⌜ grades ≤ 40 ⌝ }
-    ensures { λ r. ⌜ Wrote
-        (tableOf (withColumns (now (obligors .entry)) (now (defaults .entry)) (now (announced .entry)) grades) ∷ [])
-        (now (out .entry)) r (now (out .exit)) ⌝ }
+// How many bytes it takes.
+fn size_of(place: &[u32]) -> usize
+    requires { ⌜ Writable (now place) ⌝ }
+    ensures { λ r. ⌜ (r ≡ sizeOf (tableIn (now (place .entry)))) × (r ≤ 484) ⌝ }
 {
-    let size = 10 + 12 * grades;
-    if out.len() < size {
-        return Written::Refused(13);
-    }
-    put_two(out, 0, 1);
+    TABLE_HEAD + ROW * grades_of(place)
+}
+
+// Stores what stands before the offset of a second table: the number of raters, the length, and the offset of the first table.
+fn put_head(out: &mut [u8], raters: usize, size: usize)
+    requires { ⌜ (6 ≤ length (now out)) × (raters ≤ 2) ⌝ }
+    ensures { λ _. ⌜ now (out .exit) ≡ stored (now (out .entry)) 0 (encodeHead raters size) ⌝ }
+{
+    put_two(out, 0, raters);
     put_two(out, 2, size);
-    put_two(out, 4, 6);
-    put_table(out, 6, obligors, defaults, announced, grades);
-    Written::Length(size as u32)
+    put_two(out, HEAD, HEAD + OFFSET * raters);
 }
 
-// A book of two tables: the one with these columns, and the one with those of number 2.
-fn write_two_in<'a, 'b>(
-    obligors: &'a [u32],
-    defaults: &'a [u32],
-    announced: &'a [u32],
-    grades: usize,
-    obligors2: &'b [u32],
-    defaults2: &'b [u32],
-    announced2: &'b [u32],
-    grades2: usize,
-    out: &mut [u8],
-) -> Written
-    requires long { ⌜ (grades ≤ length (now obligors)) × (grades ≤ length (now defaults)) × (grades ≤ length (now announced)) ⌝ }
-    requires long2 { ⌜ (grades2 ≤ length (now obligors2)) × (grades2 ≤ length (now defaults2)) × (grades2 ≤ length (now announced2)) ⌝ }
-    requires few { ⌜ (grades ≤ 40) × (grades2 ≤ 40) ⌝ }
-    ensures { λ r. ⌜ Wrote
-        (tableOf (withColumns (now (obligors .entry)) (now (defaults .entry)) (now (announced .entry)) grades)
-        ∷ tableOf (withColumns (now (obligors2 .entry)) (now (defaults2 .entry)) (now (announced2 .entry)) grades2)
-        ∷ [])
-        (now (out .entry)) r (now (out .exit)) ⌝ }
+// A book of the table in one place.
+fn write_one(place: &[u32], out: &mut [u8]) -> Written
+    requires { ⌜ Writable (now place) ⌝ }
+    ensures { λ r. ⌜ r ≡ writeAnswer (tableIn (now (place .entry)) ∷ []) (length (now (out .entry))) ⌝ }
+    ensures { λ _. ⌜ now (out .exit) ≡ bufferAfter (tableIn (now (place .entry)) ∷ []) (now (out .entry)) ⌝ }
 {
-    let second = 12 + 12 * grades;
-    let end = second + 4 + 12 * grades2;
+    let end = ONE_OFFSET + size_of(place);
     if out.len() < end {
-        return Written::Refused(13);
+        return Written::Refused(SHORT_BUFFER);
     }
-    put_two(out, 0, 2);
-    put_two(out, 2, end);
-    put_two(out, 4, 8);
-    put_two(out, 6, second);
-    put_table(out, 8, obligors, defaults, announced, grades);
-    put_table(out, second, obligors2, defaults2, announced2, grades2);
+    put_head(out, 1, end);
+    put_table(out, ONE_OFFSET, place);
     Written::Length(end as u32)
 }
 
-// A book of the loaded ones of two places whose fields are lent, the first before the second. What is required holds of every place of a desk.
-pub fn write_in<'a, 'b>(
-    obligors: &'a [u32],
-    defaults: &'a [u32],
-    announced: &'a [u32],
-    grades: usize,
-    loaded: bool,
-    obligors2: &'b [u32],
-    defaults2: &'b [u32],
-    announced2: &'b [u32],
-    grades2: usize,
-    loaded2: bool,
-    out: &mut [u8],
-) -> Written
-    requires long { ⌜ (grades ≤ length (now obligors)) × (grades ≤ length (now defaults)) × (grades ≤ length (now announced)) ⌝ }
-    requires long2 { ⌜ (grades2 ≤ length (now obligors2)) × (grades2 ≤ length (now defaults2)) × (grades2 ≤ length (now announced2)) ⌝ }
-    requires few { ⌜ (grades ≤ 40) × (grades2 ≤ 40) ⌝ }
-    ensures { λ r. ⌜ Wrote
-        (tablesOf (lentPlace (now (obligors .entry)) (now (defaults .entry)) (now (announced .entry)) grades loaded) (lentPlace (now (obligors2 .entry)) (now (defaults2 .entry)) (now (announced2 .entry)) grades2 loaded2))
-        (now (out .entry)) r (now (out .exit)) ⌝ }
+// A book of the tables in two places.
+fn write_two(first: &[u32], second: &[u32], out: &mut [u8]) -> Written
+    requires { ⌜ Writable (now first) × Writable (now second) ⌝ }
+    ensures { λ r. ⌜ r ≡ writeAnswer (tableIn (now (first .entry)) ∷ tableIn (now (second .entry)) ∷ []) (length (now (out .entry))) ⌝ }
+    ensures { λ _. ⌜ now (out .exit) ≡ bufferAfter (tableIn (now (first .entry)) ∷ tableIn (now (second .entry)) ∷ []) (now (out .entry)) ⌝ }
 {
-    if loaded {
-        if loaded2 {
-            write_two_in(
-                obligors,
-                defaults,
-                announced,
-                grades,
-                obligors2,
-                defaults2,
-                announced2,
-                grades2,
-                out,
-            )
-        } else {
-            write_one_in(obligors, defaults, announced, grades, out)
-        }
-    } else {
-        if loaded2 {
-            write_one_in(obligors2, defaults2, announced2, grades2, out)
-        } else {
-            Written::Refused(22)
-        }
+    let next = TWO_OFFSETS + size_of(first);
+    let end = next + size_of(second);
+    if out.len() < end {
+        return Written::Refused(SHORT_BUFFER);
     }
+    put_head(out, 2, end);
+    put_two(out, ONE_OFFSET, next);
+    put_table(out, TWO_OFFSETS, first);
+    put_table(out, next, second);
+    Written::Length(end as u32)
 }
 
-// A book of the loaded places, 1 before 2.
-pub fn write(first: Place, second: Place, out: &mut [u8]) -> Written
-    requires { ⌜ (first .grades ≤ 40) × (second .grades ≤ 40) ⌝ }
-    ensures { λ r. ⌜ Wrote (tablesOf first second) (now (out .entry)) r (now (out .exit)) ⌝ }
+// A book of the loaded ones of two places, the first before the second.
+pub fn write(first: &[u32], second: &[u32], out: &mut [u8]) -> Written
+    requires { ⌜ Writable (now first) × Writable (now second) ⌝ }
+    ensures { λ r. ⌜ r ≡ writeAnswer (lentTables (now (first .entry)) (now (second .entry))) (length (now (out .entry))) ⌝ }
+    ensures { λ _. ⌜ now (out .exit) ≡ bufferAfter (lentTables (now (first .entry)) (now (second .entry))) (now (out .entry)) ⌝ }
 {
-    write_in(
-        &first.obligors,
-        &first.defaults,
-        &first.announced,
-        first.grades,
-        first.loaded,
-        &second.obligors,
-        &second.defaults,
-        &second.announced,
-        second.grades,
-        second.loaded,
-        out,
-    )
+    let second_loaded = is_loaded(second);
+    if is_loaded(first) {
+        if second_loaded {
+            write_two(first, second, out)
+        } else {
+            write_one(first, out)
+        }
+    } else {
+        if second_loaded {
+            write_one(second, out)
+        } else {
+            Written::Refused(PLACE_EMPTY)
+        }
+    }
 }

@@ -1,17 +1,18 @@
 -- `put_four` meets its contract.
-use Prim.Native.Nat.{_/_, _%_}
-use mathlib.Core.Path.{refl}
+use mathlib.Core.Path.{_∙_}
 use borrow.Author.Needs.{needs}
 use Rattle.book.specs.Bytes.{twoBytes, fourBytes}
 use Rattle.book.proofs.Stored.{stored-two}
+use Rattle.book.proofs.Books.{length-two}
 use Rattle.book.proofs.bytes.put_four.Statement.{statement}
 use Rattle.book.proofs.bytes.put_four.Tie as tie
 
 returns : tie.Need-returns
-unfolding fourBytes twoBytes
+unfolding fourBytes
 returns c =
-    let a = c .before .before .before .before .before .before .before .before .before .args in
-    cc (stored-two (twoBytes (a .n % 65_536)) (twoBytes (a .n / 65_536)) (a .b .now) (a .at) _ refl)
+    let second = c .before .before in
+    let first = second .before .before .before .before in
+    second .put-two2 .ensures ∙ rw (first .put-two .ensures) (stored-two _ _ _ _ _ (rw length-two))
 
 pub put-four-spec : {M : Type 1} → statement M
 put-four-spec =

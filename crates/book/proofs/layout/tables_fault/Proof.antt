@@ -8,7 +8,7 @@ use native.Mathlib.Omega.{arith}
 use borrow.Author.Needs.{needs}
 use lib.ListN.{length}
 use Rattle.book.specs.Checks.{equal, fault}
-use Rattle.book.specs.Layout.{raters, endOf, leftoverFault, headChecks, tableChecks, tablesFrom, tablesFault}
+use Rattle.book.specs.Layout.{raters, endOf, leftoverFault, headChecks, tableChecks, tablesFaultFrom, tablesFault}
 use Rattle.book.proofs.Checks.{Holds, held, found, none, same, other, first-none, first-some}
 use Rattle.book.proofs.layout.tables_fault.Statement.{statement}
 use Rattle.book.proofs.layout.tables_fault.Tie as tie
@@ -16,14 +16,14 @@ use Rattle.book.proofs.layout.tables_fault.Tie as tie
 record Walked (b : List ℕ) (at j : ℕ) : Type 0 where
   pub to : j ≤ raters b
   pub room : at ≤ length b
-  pub rest : tablesFrom b (raters b - j) (j + 1) at ≡ tablesFault b
+  pub rest : tablesFaultFrom b (raters b - j) (j + 1) at ≡ tablesFault b
 
 record Turn (b : List ℕ) (at j n : ℕ) : Type 0 where
   pub stops : (n ≡ 0 → ⊥) → n ≡ tablesFault b
-  pub goes : n ≡ 0 → Holds (tableChecks b (j + 1) at) × (tablesFrom b (raters b - (j + 1)) (j + 1 + 1) (endOf b at) ≡ tablesFault b)
+  pub goes : n ≡ 0 → Holds (tableChecks b (j + 1) at) × (tablesFaultFrom b (raters b - (j + 1)) (j + 1 + 1) (endOf b at) ≡ tablesFault b)
 
 turn : (b : List ℕ) (at j n : ℕ) → Walked b at j → j < raters b → n ≡ fault (tableChecks b (j + 1) at) → Turn b at j n
-unfolding tablesFrom
+unfolding tablesFaultFrom
 turn b at j n inv h e =
     let s : raters b - j ≡ suc (raters b - (j + 1)) = omega arith in
     let rest = rw (s, ← e, ← add-one (j + 1)) at (inv .rest) in
@@ -33,7 +33,7 @@ turn b at j n inv h e =
     }
 
 ends : (b : List ℕ) (at j : ℕ) → Walked b at j → raters b ≤ j → fault (equal at (length b) leftoverFault ∷ []) ≡ tablesFault b
-unfolding tablesFrom
+unfolding tablesFaultFrom
 ends b at j inv h = let e : raters b - j ≡ 0 = omega arith in rw e at (inv .rest)
 
 abbrev Inv-loop : tie.InvT-loop

@@ -56,13 +56,13 @@ standing : (c : tie.Else4) → let a = c .before .before .before .before .before
 standing c = stands _ _ (headed (c .before .before .before .before .before)) (omega arith) (omega arith) (laid c)
 
 rows-fault-requires : tie.Need-rows-fault-requires
-rows-fault-requires c κs = let s = standing (c .before) in rw (c .two-at2 .ensures .0) (s .inside, s .few)
+rows-fault-requires c κs = let s = standing (c .before) in rw (c .start-of .ensures) (s .inside, s .few)
 
 returns-5 : tie.Need-returns-5
 unfolding readFault
 returns-5 c =
     let a = c .before .before in
-    c .rows-fault .ensures ∙ rw (c .before .two-at2 .ensures .0)
+    c .rows-fault .ensures ∙ rw (c .before .start-of .ensures)
     (go (headed (a .before .before .before .before .before)) (go (asked (a .before .before)) (go (laid a) refl)))
 
 pub read-fault-spec : {M : Type 1} → statement M
@@ -76,8 +76,6 @@ read-fault-spec =
     returns-3
     (λ c κs. search needs)
     returns-4
-    (λ c. search needs)
-    (λ c. search needs)
-    (λ c κs. let s = standing c in omega arith)
+    (λ c κs. let s = standing c in (s .from, s .head))
     rows-fault-requires
     returns-5)

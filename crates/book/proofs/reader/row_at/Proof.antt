@@ -6,7 +6,11 @@ use Rattle.book.proofs.reader.row_at.Tie as tie
 
 returns : tie.Need-returns
 unfolding gradeIn
-returns c = cc
+returns c =
+    let third = c .before in
+    let second = third .before in
+    let first = second .before in
+    rw (c .obligors-by .ensures, third .four-at3 .ensures, second .four-at2 .ensures, first .four-at .ensures)
 
 pub row-at-spec : {M : Type 1} → statement M
 row-at-spec =

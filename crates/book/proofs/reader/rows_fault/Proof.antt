@@ -11,16 +11,16 @@ use Rattle.table.proofs.Sums.{obligors-append}
 use Rattle.book.specs.declared.Row.{Row}
 use Rattle.book.specs.Checks.{fault}
 use Rattle.book.specs.Layout.{gradesAt, kindAt}
-use Rattle.book.specs.Rows.{gradeIn, gradesIn, tableAt, rowChecks, rowsFault, totalChecks, tableFault}
-use Rattle.book.specs.Reading.{gradeOf, heldGrade}
+use Rattle.book.specs.Rows.{gradeIn, gradesIn, tableFrom, rowChecks, rowsFault, totalChecks, tableFault}
+use Rattle.book.specs.Reading.{gradeOf, cappedGrade}
 use Rattle.book.proofs.Checks.{found, none, pass, over, first-none, first-some}
-use Rattle.book.proofs.Rows.{rows-end, rows-at, rows-more, heldTable, held-more, held-le, held-exact, held-fault, by-rows, by-total}
+use Rattle.book.proofs.Rows.{rows-end, rows-at, rows-more, cappedTable, capped-more, capped-le, capped-exact, capped-fault, by-rows, by-total}
 use Rattle.book.proofs.reader.rows_fault.Statement.{statement}
 use Rattle.book.proofs.reader.rows_fault.Tie as tie
 
 -- the rows read, and the rows to come
 abbrev read : List ℕ → ℕ → ℕ → Table
-read b start i = heldTable (gradesIn b (kindAt b start) i (start + 4))
+read b start i = cappedTable (gradesIn b (kindAt b start) i (start + 4))
 
 abbrev rest : List ℕ → ℕ → ℕ → ℕ → Table
 rest b start at i = gradesIn b (kindAt b start) (gradesAt b start - i) at
@@ -29,26 +29,26 @@ record Swept (b : List ℕ) (start total at i : ℕ) : Type 0 where
   pub to : i ≤ gradesAt b start
   pub here : at ≡ start + 4 + 12 * i
   pub small : total ≤ i * 4_294_967_295
-  pub faults : rowsFault (rest b start at i) ≡ rowsFault (tableAt b start)
+  pub faults : rowsFault (rest b start at i) ≡ rowsFault (tableFrom b start)
   pub sum : total ≡ obligorsIn (read b start i)
 
 record Turn (b : List ℕ) (start total at i n : ℕ) (r : Row) : Type 0 where
-  pub stops : (n ≡ 0 → ⊥) → n ≡ tableFault (tableAt b start)
+  pub stops : (n ≡ 0 → ⊥) → n ≡ tableFault (tableFrom b start)
   pub goes : n ≡ 0 → Swept b start (total + r .obligors .0) (at + 12) (i + 1)
 
 turn : (b : List ℕ) (start total at i n : ℕ) (r : Row) → Swept b start total at i → i < gradesAt b start → gradesAt b start ≤ 40 → r .defaults ≤ 4_294_967_295
-    → gradeOf r ≡ heldGrade (gradeIn b (kindAt b start) at) → n ≡ fault (rowChecks (gradeOf r)) → Turn b start total at i n r
+    → gradeOf r ≡ cappedGrade (gradeIn b (kindAt b start) at) → n ≡ fault (rowChecks (gradeOf r)) → Turn b start total at i n r
 unfolding rowsFault obligorsIn
 turn b start total at i n r inv h few w e en =
     let k = kindAt b start in
     let g = gradeIn b k at in
     let low : r .obligors .0 ≤ 4_294_967_295 = omega (arith, ap (λ (x : Grade). x .obligors) e) in
-    let q : n ≡ fault (rowChecks g) = en ∙ rw e (held-fault g (omega (arith, ap (λ (x : Grade). x .defaults) e))) in
+    let q : n ≡ fault (rowChecks g) = en ∙ rw e (capped-fault g (omega (arith, ap (λ (x : Grade). x .defaults) e))) in
     let fs = rw (rows-at b k (gradesAt b start) i at h, ← q) at (inv .faults) in
     let more : read b start (i + 1) ≡ read b start i ++ gradeOf r ∷ [] =
-    rw (add-one i, rows-more b k i (start + 4), held-more (gradesIn b k i (start + 4)), e, inv .here) in
+    rw (add-one i, rows-more b k i (start + 4), capped-more (gradesIn b k i (start + 4)), e, inv .here) in
     record {
-      stops = λ z. by-rows (tableAt b start) n z (sym fs ∙ first-some n _ z);
+      stops = λ z. by-rows (tableFrom b start) n z (sym fs ∙ first-some n _ z);
       goes = λ z. record {
         to = omega arith;
         here = omega arith;
@@ -60,8 +60,8 @@ turn b start total at i n r inv h few w e en =
 
 -- after the last row
 record Ended (b : List ℕ) (start total : ℕ) : Type 0 where
-  pub faultless : rowsFault (tableAt b start) ≡ 0
-  pub sum : total ≡ obligorsIn (heldTable (tableAt b start))
+  pub faultless : rowsFault (tableFrom b start) ≡ 0
+  pub sum : total ≡ obligorsIn (cappedTable (tableFrom b start))
 
 ended : (b : List ℕ) (start total at i : ℕ) → Swept b start total at i → gradesAt b start ≤ i → Ended b start total
 unfolding rowsFault
@@ -72,17 +72,17 @@ ended b start total at i inv h =
       sum = rw e at (inv .sum);
     }
 
-above : (b : List ℕ) (start total : ℕ) → Ended b start total → 1_000_000 < total → 11 ≡ tableFault (tableAt b start)
+above : (b : List ℕ) (start total : ℕ) → Ended b start total → 1_000_000 < total → 11 ≡ tableFault (tableFrom b start)
 unfolding totalChecks
 above b start total f h =
-    let t = tableAt b start in
-    by-total t 11 (f .faultless) (found (over (omega (arith, held-le t, f .sum))))
+    let t = tableFrom b start in
+    by-total t 11 (f .faultless) (found (over (omega (arith, capped-le t, f .sum))))
 
-within : (b : List ℕ) (start total : ℕ) → Ended b start total → total ≤ 1_000_000 → 0 ≡ tableFault (tableAt b start)
+within : (b : List ℕ) (start total : ℕ) → Ended b start total → total ≤ 1_000_000 → 0 ≡ tableFault (tableFrom b start)
 unfolding totalChecks
 within b start total f h =
-    let t = tableAt b start in
-    let s = held-exact t (omega (arith, f .sum)) in
+    let t = tableFrom b start in
+    let s = capped-exact t (omega (arith, f .sum)) in
     let g = rw s at (f .sum) in
     by-total t 0 (f .faultless) (found (pass (omega (arith, g)) none))
 

@@ -2,11 +2,14 @@
 use Prim.Native.Nat.{ℕ, _+_, _-_, _*_, _≤_, _<_}
 use mathlib.Core.Path.{_≡_, refl, sym, _∙_}
 use mathlib.Core.List.{List}
+use native.Mathlib.Nat.{zero-add}
 use native.Mathlib.Omega.{arith}
-use lib.ListN.{length}
+use lib.ListN.{length, getD}
 use denote.Ref.{now}
 use Rattle.table.specs.declared.Place.{Place}
-use Rattle.table.specs.Place.{gradeAt, tableOf, withColumns}
+use Rattle.table.specs.Place.{gradeAt, tableOf}
+use Rattle.table.specs.Words.{placeIn}
+use Rattle.table.proofs.Words.{column-at}
 use Rattle.table.proofs.Suffix.{suffix, suffix-all, suffix-end, suffix-at}
 use Rattle.book.specs.Bytes.{stored}
 use Rattle.book.specs.Encode.{encodeGrade, encodeGrades}
@@ -33,32 +36,33 @@ put p whole size start out at i next inv h e =
       rest = rw (e, stored-two (encodeGrade (gradeAt p i)) _ out at (at + 12) m) (rw (suffix-at p i h) at (inv .rest));
     }
 
+-- grade i stands at three words
+grade-at : (w : List ℕ) (i : ℕ) → i < 40 → record { obligors = getD w i 0; defaults = getD w (40 + i) 0; announced = getD w (80 + i) 0 } ≡ gradeAt (placeIn w) i
+grade-at w i h = rw (← column-at w 0 i h, zero-add, ← column-at w 40 i h, ← column-at w 80 i h)
+
 abbrev Inv-loop : tie.InvT-loop
-Inv-loop out₀ start obligors defaults announced grades at₀ i₀ out at i =
-    let p = withColumns obligors defaults announced grades in
+Inv-loop out₀ start place grades at₀ i₀ out at i =
+    let p = placeIn place in
     Put p (stored out₀ start (encodeGrades (tableOf p))) (length out₀) start out at i
 
 abbrev μ-loop : tie.MeasureT-loop
-μ-loop out₀ start obligors defaults announced grades at₀ i₀ out at i = grades - i
-
-abbrev place : tie.Start Inv-loop μ-loop → Place
-place c = withColumns (now (c .args .obligors)) (now (c .args .defaults)) (now (c .args .announced)) (c .args .grades)
+μ-loop out₀ start place grades at₀ i₀ out at i = grades - i
 
 loop-holds : tie.Need-loop-holds Inv-loop μ-loop
-loop-holds c =
-    let a = c .before .before .before .before in
-    record { to = omega arith; here = omega arith; long = refl; rest = rw (suffix-all (place a) 0 refl) }
+loop-holds c = record { to = omega arith; here = omega arith; long = refl; rest = rw (suffix-all _ 0 refl) }
 
 loop-again : tie.Need-loop-again Inv-loop μ-loop
 loop-again c =
     let a = c .before .before .before .before .before .before .before in
-    put _ _ _ _ _ _ _ _ (a .before .loop .inv) (a .loop-test .taken) (c .before .before .put-row .ensures)
+    let l = a .before .loop in
+    put _ _ _ _ _ _ _ _ (l .inv) (omega arith) (rw (← grade-at _ (l .i) (omega arith)) (c .before .before .put-row .ensures))
 
 returns : tie.Need-returns Inv-loop μ-loop
 unfolding encodeGrades
 returns c =
     let a = c .before in
-    let e = suffix-end (place (a .before .before .before .before .before)) (a .loop .i) (omega arith) in
+    let p = placeIn (now (a .before .before .before .before .args .place)) in
+    let e = suffix-end p (a .loop .i) (omega (arith, a .before .grades-of .ensures)) in
     sym (stored-none _ _) ∙ (rw e at (a .loop .inv .rest))
 
 pub put-rows-spec : {M : Type 1} → statement M
@@ -67,7 +71,10 @@ put-rows-spec =
     (tie.spec
     Inv-loop
     μ-loop
+    (λ c κs. c .before .before .pre .0 .long)
     loop-holds
+    (λ c. omega arith)
+    (λ c. omega arith)
     (λ c. omega arith)
     (λ c. omega arith)
     (λ c. omega arith)
