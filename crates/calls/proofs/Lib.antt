@@ -1,3 +1,3 @@
 pub mod Leaves
 pub mod Answered
-pub mod Compared
+pub mod Asked

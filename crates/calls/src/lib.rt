@@ -1,4 +1,4 @@
-// The calls on one place, over its words: every check but that of the place's number, and then the work. Compare is in `compare`.
+// The calls on one place, over its words: every check but that of the place's number, and then the work. Compare, which asks two, is in `pair`.
 ghost use mathlib.Core.Path.{_≡_};
 ghost use lib.ListN.{length};
 ghost use Rattle.table.specs.Counts.{totalsOf};
@@ -13,9 +13,9 @@ ghost use Rattle.spread.specs.Spread.{IsSpread};
 ghost use Rattle.calls.specs.Answers.{answer, leaves, Limited, cheapestSays, measuresSays, brierSays, spreadSays, totalsSays};
 ghost use Rattle.calls.specs.Calls.{emptyFault, questionFault, cheapest, measures, brier, spread, fillFault, pool, changeFault, load, clear, Fillable};
 
-mod compare;
+mod pair;
 
-pub use compare::compare;
+pub use pair::compare;
 use cutoff::CheapestCutoff;
 use cutoff::PRICE;
 use cutoff::Verdict;
@@ -122,7 +122,10 @@ pub fn cheapest(place: &[u32], u: u32, v: u32) -> CheapestAnswer
     if !is_loaded(place) {
         return CheapestAnswer::Refused(PLACE_EMPTY);
     }
-    if PRICE < u || PRICE < v {
+    if PRICE < u {
+        return CheapestAnswer::Refused(HIGH_PRICE);
+    }
+    if PRICE < v {
         return CheapestAnswer::Refused(HIGH_PRICE);
     }
     CheapestAnswer::Cheapest(cutoff::cheapest(place, u, v))
