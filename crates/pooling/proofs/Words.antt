@@ -29,15 +29,16 @@ block-first w at b bs e =
     let d : getD w (at + 2) 0 ≡ b .defaults = sym (getD-drop at w 2 0) ∙ ap (λ (l : List ℕ). getD l 2 0) e in
     rw (g, n, d) refl
 
+-- How many words they take.
+pub count-words : (w : List ℕ) (at : ℕ) (bs : List Block) → drop at w ≡ blockWords bs → length w - at ≡ 3 * length bs
+count-words w at bs e = rw (← length-words bs, ← e, length-drop)
+
 -- The first of them, and the others.
 pub record First (w : List ℕ) (at : ℕ) (bs : List Block) : Type 0 where
   pub others : List Block
   pub split : bs ≡ blockAt w at ∷ others
   pub words : drop (at + 3) w ≡ blockWords others
   pub room : at + 3 ≤ length w
-
-pub count-words : (w : List ℕ) (at : ℕ) (bs : List Block) → drop at w ≡ blockWords bs → length w - at ≡ 3 * length bs
-count-words w at bs e = rw (← length-words bs, ← e, length-drop)
 
 pub first : (w : List ℕ) (at : ℕ) (bs : List Block) → drop at w ≡ blockWords bs → at < length w → First w at bs
 unfolding blockWords

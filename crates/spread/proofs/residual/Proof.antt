@@ -1,5 +1,5 @@
 -- `residual` meets its contract. The invariant: the blocks in the words from `at` on are still to be added.
-use Prim.Native.Nat.{ℕ, _+_, _-_, _≤_}
+use Prim.Native.Nat.{ℕ, _-_}
 use mathlib.Core.Path.{_≡_}
 use mathlib.Core.List.{List, _∷_}
 use native.Mathlib.Omega.{arith}
