@@ -81,7 +81,7 @@ fn size_of(place: &[u32]) -> usize
 
 // Stores what stands before the offset of a second table: the number of raters, the length, and the offset of the first table.
 fn put_head(out: &mut [u8], raters: usize, size: usize)
-    requires { ⌜ (6 ≤ length (now out)) × (raters ≤ 2) ⌝ }
+    requires { ⌜ (6 ≤ length (now out)) × (raters ≤ 16) ⌝ }
     ensures { λ _. ⌜ now (out .exit) ≡ stored (now (out .entry)) 0 (encodeHead raters size) ⌝ }
 {
     put_two(out, 0, raters);
