@@ -30,7 +30,7 @@ checked b j e =
     let c = held (raterChecks b j) (r .0) in
     record { standing = stands b j (h .0) (c .0) (c .1 .0) (t .0); table = t .1 }
 
--- and of the table that it is one
+-- A table that is read without a fault is sound.
 pub sound-read : (b : List ℕ) (j : ℕ) → readFault b j ≡ 0 → Sound (tableOfRater b j)
 sound-read b j e =
     let c = checked b j e in

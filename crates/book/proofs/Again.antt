@@ -10,7 +10,8 @@ use lib.Seq.{drop-cons, drop-length}
 use Rattle.table.specs.Table.{Every}
 use Rattle.book.specs.Bytes.{Byte, byteAt, twoAt, fourAt, twoBytes, fourBytes}
 use Rattle.book.specs.Checks.{equal, fault}
-use Rattle.book.specs.Layout.{raters, startOf, gradesAt, kindAt, endOf, firstStart, leftoverFault, headChecks, tableChecks, tablesFaultFrom, layoutFault}
+use Rattle.book.specs.Layout.{raters, startOf, gradesAt, kindAt, endOf, firstStart, leftoverFault}
+use Rattle.book.specs.Layout.{headChecks, tableChecks, tablesFaultFrom, layoutFault}
 use Rattle.book.specs.Rows.{gradeIn, gradesIn, tableFrom, tablesIn}
 use Rattle.book.specs.Encode.{encodeGrade, encodeGrades, encodeTable, sizeOf, encodeTables, offsets, endsAt, encode}
 use Rattle.book.proofs.Checks.{held, held-first}
@@ -64,14 +65,23 @@ module _ (b : List ℕ) (h : Every Byte b) where
       grade-again i (i + 12) refl (omega arith)
       ∙ rw (rows-again k (i + 12) j (omega arith) l, append-assoc (encodeGrade (gradeIn b 0 i)))
 
-  table-again : (i : ℕ) → gradesAt b i ≤ 40 → kindAt b i ≡ 0 → twoAt b (i + 2) ≡ 0 → endOf b i ≤ length b → drop i b ≡ encodeTable (tableFrom b i) ++ drop (endOf b i) b
+  table-again : (i : ℕ) → gradesAt b i ≤ 40 → kindAt b i ≡ 0 → twoAt b (i + 2) ≡ 0 → endOf b i ≤ length b
+      → drop i b ≡ encodeTable (tableFrom b i) ++ drop (endOf b i) b
   unfolding twoAt
   table-again i few kind zeros l =
       let n = gradesAt b i in
       let e : twoAt b i ≡ n = omega arith in
       let t = gradesIn b 0 n (i + 4) in
       two-again i (i + 2) refl (omega arith)
-      ∙ rw (e, two-again (i + 2) (i + 4) (omega arith) (omega arith), zeros, rows-again n (i + 4) (endOf b i) refl l, kind, ← header t n (length-rows b 0 n (i + 4)) few) (simp append-assoc)
+      ∙ rw (
+        e,
+        two-again (i + 2) (i + 4) (omega arith) (omega arith),
+        zeros,
+        rows-again n (i + 4) (endOf b i) refl l,
+        kind,
+        ← header t n (length-rows b 0 n (i + 4)) few,
+      )
+      (simp append-assoc)
 
 -- What the checks of the table of rater j say, where the one before ended at `at`.
 record Here (b : List ℕ) (j at : ℕ) : Type 0 where

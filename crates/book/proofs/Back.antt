@@ -41,7 +41,8 @@ pub two-back : (n : ℕ) (w : List ℕ) → n < 65_536 → twoAt (twoBytes n ++ 
 unfolding twoAt twoBytes
 two-back n w h = omega arith
 
-grade-back : (g : Grade) (w : List ℕ) → g .obligors ≤ 1_000_000 → g .defaults ≤ 1_000_000 → g .announced ≤ 1_000_000 → gradeIn (encodeGrade g ++ w) 0 0 ≡ g
+grade-back : (g : Grade) (w : List ℕ) → g .obligors ≤ 1_000_000 → g .defaults ≤ 1_000_000 → g .announced ≤ 1_000_000
+    → gradeIn (encodeGrade g ++ w) 0 0 ≡ g
 unfolding gradeIn fourAt twoAt encodeGrade fourBytes twoBytes
 grade-back g w h i j =
     let n : fourAt (encodeGrade g ++ w) 0 ≡ g .obligors = omega arith in

@@ -68,7 +68,8 @@ length-lent w = length-grades (placeIn w) 0 (placeIn w .grades)
 -- Parts stored one after the other.
 
 pub grade-stored : (l : List ℕ) (at : ℕ) (g : Grade)
-    → stored (stored (stored l at (fourBytes (g .obligors))) (at + 4) (fourBytes (g .defaults))) (at + 8) (fourBytes (g .announced)) ≡ stored l at (encodeGrade g)
+    → stored (stored (stored l at (fourBytes (g .obligors))) (at + 4) (fourBytes (g .defaults))) (at + 8) (fourBytes (g .announced))
+    ≡ stored l at (encodeGrade g)
 unfolding encodeGrade fourBytes twoBytes
 grade-stored l at g = stored-three _ _ _ l at (at + 4) (at + 8) (omega arith) (omega arith)
 
@@ -118,7 +119,8 @@ abbrev pub Wrote : List Table → List ℕ → Written → List ℕ → Type 0
 Wrote ts buf r after = (r ≡ writeAnswer ts (length buf)) × (after ≡ bufferAfter ts buf)
 
 module _ (ts : List Table) (buf : List ℕ) where
-  pub fits : (r : Written) (after : List ℕ) → 1 ≤ length ts → bookSize ts ≤ length buf → r ≡ Length (bookSize ts) → after ≡ stored buf 0 (encode ts) → Wrote ts buf r after
+  pub fits : (r : Written) (after : List ℕ) → 1 ≤ length ts → bookSize ts ≤ length buf → r ≡ Length (bookSize ts) → after ≡ stored buf 0 (encode ts)
+      → Wrote ts buf r after
   unfolding writeFault lengthOr bufferOr
   fits r after some h e f =
       let z : 0 ≡ writeFault ts (length buf) = found (pass some (pass h none)) in

@@ -4,16 +4,45 @@ use mathlib.Core.Path.{_≡_, refl, sym, ap, _∙_}
 use mathlib.Core.List.{List, [], _∷_, _++_, map, append-assoc}
 use native.Mathlib.Omega.{arith}
 use lib.ListN.{length, set, take, drop, replicate, length-append, length-map, length-replicate}
-use lib.Seq.{sets-eq, take-at, drop-at, drop-drop, drop-append-le, set-at}
+use lib.Seq.{set-comm, sets-eq, take-at, drop-at, drop-drop, drop-append-le, set-at}
 use Rattle.table.specs.Table.{Table, Grade}
 use Rattle.table.specs.Place.{fresh, column, placeOf}
 use Rattle.table.specs.Words.{wordsOf}
 use Rattle.table.proofs.Placed.{length-column}
 use Rattle.book.specs.Bytes.{stored}
 
+-- Columns.
+
 -- three columns in one list, from 0, 40 and 80 on, in which those of a table were stored from grade i on
 abbrev pub columnsAfter : List ℕ → ℕ → Table → List ℕ
 columnsAfter w i t = stored (stored (stored w i (map (λ g. g .obligors) t)) (40 + i) (map (λ g. g .defaults) t)) (80 + i) (map (λ g. g .announced) t)
+
+-- a number behind a stored list, stored before or after it
+stored-set : (v l : List ℕ) (at k x : ℕ) → at + length v ≤ k → stored (set l k x) at v ≡ set (stored l at v) k x
+unfolding stored
+stored-set [] l at k x h = refl
+stored-set (y ∷ v) l at k x h =
+    ap (λ (m : List ℕ). stored m (suc at) v) (set-comm l k at x y (λ e. omega arith)) ∙ stored-set v (set l at y) (suc at) k x (omega arith)
+
+-- one row and the rest of three columns
+pub row-stored : (w os ds ps : List ℕ) (i x y z : ℕ) → length os ≤ 39 → length ds ≤ 39
+    → stored (stored (stored (set (set (set w i x) (40 + i) y) (80 + i) z) (i + 1) os) (40 + (i + 1)) ds) (80 + (i + 1)) ps
+    ≡ stored (stored (stored w i (x ∷ os)) (40 + i) (y ∷ ds)) (80 + i) (z ∷ ps)
+unfolding stored
+row-stored w os ds ps i x y z h k =
+    let c : 80 + (i + 1) ≡ suc (80 + i) = omega arith in
+    let b : 40 + (i + 1) ≡ suc (40 + i) = omega arith in
+    let a : i + 1 ≡ suc i = omega arith in
+    rw (
+      c,
+      b,
+      a,
+      stored-set os (set (set w i x) (40 + i) y) (suc i) (80 + i) z (omega arith),
+      stored-set os (set w i x) (suc i) (40 + i) y (omega arith),
+      stored-set ds (set (stored (set w i x) (suc i) os) (40 + i) y) (suc (40 + i)) (80 + i) z (omega arith),
+    )
+
+-- Over the zeros of an empty place.
 
 abbrev zeros : List ℕ
 zeros = replicate 40 0

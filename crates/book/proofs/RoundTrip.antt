@@ -59,7 +59,8 @@ front b j at t ts s sound =
     let low : at < 65_536 = omega (arith, length-tables at (t ∷ ts), s .small) in
     let rest : List ℕ = offsets (at + sizeOf t) ts ++ s .v in
     record {
-      start = rw (s .offs, append-assoc (twoBytes at)) (two-shift (s .u) (twoBytes at ++ rest) (2 + 2 * j) 0 (omega (arith, s .offs-at)) ∙ two-back at rest low);
+      start = rw (s .offs, append-assoc (twoBytes at))
+          (two-shift (s .u) (twoBytes at ++ rest) (2 + 2 * j) 0 (omega (arith, s .offs-at)) ∙ two-back at rest low);
       here = rw (s .body) (table-back (s .w) t (encodeTables ts) at (s .body-at) sound);
       room = omega (arith, simp (length-append, length-table) at (ap length (s .body)), s .body-at);
     }
@@ -86,7 +87,8 @@ walk (t ∷ ts) b j at s sound =
     let e : endOf b at ≡ at + sizeOf t = omega arith in
     go (faultless b j at t f (sound .0)) (rw e (walk ts b (suc j) (at + sizeOf t) (next b j at t ts s) (sound .1)))
 
-pick : (ts : List Table) (b : List ℕ) (j at m : ℕ) → Tail b j at ts → Every Sound ts → m < length ts → (tableOfRater b (j + m) ≡ getD ts m []) × Sound (getD ts m [])
+pick : (ts : List Table) (b : List ℕ) (j at m : ℕ) → Tail b j at ts → Every Sound ts → m < length ts
+    → (tableOfRater b (j + m) ≡ getD ts m []) × Sound (getD ts m [])
 pick [] b j at m s sound h = absurd (omega arith)
 pick (t ∷ ts) b j at zero s sound h =
     let f = front b j at t ts s (sound .0) in
@@ -166,7 +168,8 @@ book-written ts buf n e =
     let k = length-is (writeFault ts (length buf)) n ts e in
     rw (k .0) (take-at (encode ts) _ n (length-encode ts ∙ k .1))
 
-chosen-sound : (p q : Place) (s t : Bool) → (s ≡ true → Sound (tableOf p)) → (t ≡ true → Sound (tableOf q)) → Every Sound (chosen p q s t) × (length (chosen p q s t) ≤ 16)
+chosen-sound : (p q : Place) (s t : Bool) → (s ≡ true → Sound (tableOf p)) → (t ≡ true → Sound (tableOf q))
+    → Every Sound (chosen p q s t) × (length (chosen p q s t) ≤ 16)
 chosen-sound p q true true f g = ((f refl, (g refl, tt)), omega arith)
 chosen-sound p q true false f g = ((f refl, tt), omega arith)
 chosen-sound p q false true f g = ((g refl, tt), omega arith)

@@ -24,10 +24,10 @@ use table::Obligors;
 use table::grades_of;
 use table::is_loaded;
 
-// Where one offset ends behind a book's head, and where two do.
-const ONE_OFFSET: usize = HEAD + OFFSET;
+// Where one offset behind the head of a book ends, and where two do.
+const ONE_OFFSET_END: usize = HEAD + OFFSET;
 
-const TWO_OFFSETS: usize = HEAD + 2 * OFFSET;
+const TWO_OFFSETS_END: usize = HEAD + 2 * OFFSET;
 
 // Stores the 12 bytes of a row from `at` on.
 fn put_row(out: &mut [u8], at: usize, r: Row)
@@ -60,7 +60,7 @@ fn put_rows(out: &mut [u8], start: usize, place: &[u32])
     }
 }
 
-// Stores that table from `at` on.
+// Stores the table in a lent place from `at` on.
 fn put_table(out: &mut [u8], at: usize, place: &[u32])
     requires writable { ⌜ Writable (now place) ⌝ }
     requires room { ⌜ at + sizeOf (tableIn (now place)) ≤ length (now out) ⌝ }
@@ -71,7 +71,7 @@ fn put_table(out: &mut [u8], at: usize, place: &[u32])
     put_rows(out, at + TABLE_HEAD, place);
 }
 
-// How many bytes it takes.
+// How many bytes the table in a lent place takes.
 fn size_of(place: &[u32]) -> usize
     requires { ⌜ Writable (now place) ⌝ }
     ensures { λ r. ⌜ (r ≡ sizeOf (tableIn (now (place .entry)))) × (r ≤ 484) ⌝ }
@@ -81,7 +81,7 @@ fn size_of(place: &[u32]) -> usize
 
 // Stores what stands before the offset of a second table: the number of raters, the length, and the offset of the first table.
 fn put_head(out: &mut [u8], raters: usize, size: usize)
-    requires { ⌜ (6 ≤ length (now out)) × (raters ≤ 2) ⌝ }
+    requires { ⌜ (6 ≤ length (now out)) × (raters ≤ 16) ⌝ }
     ensures { λ _. ⌜ now (out .exit) ≡ stored (now (out .entry)) 0 (encodeHead raters size) ⌝ }
 {
     put_two(out, 0, raters);
@@ -95,13 +95,13 @@ fn write_one(place: &[u32], out: &mut [u8]) -> Written
     ensures { λ r. ⌜ r ≡ writeAnswer (tableIn (now (place .entry)) ∷ []) (length (now (out .entry))) ⌝ }
     ensures { λ _. ⌜ now (out .exit) ≡ bufferAfter (tableIn (now (place .entry)) ∷ []) (now (out .entry)) ⌝ }
 {
-    let end = ONE_OFFSET + size_of(place);
-    if out.len() < end {
+    let size = ONE_OFFSET_END + size_of(place);
+    if out.len() < size {
         return Written::Refused(SHORT_BUFFER);
     }
-    put_head(out, 1, end);
-    put_table(out, ONE_OFFSET, place);
-    Written::Length(end as u32)
+    put_head(out, 1, size);
+    put_table(out, ONE_OFFSET_END, place);
+    Written::Length(size as u32)
 }
 
 // A book of the tables in two places.
@@ -110,14 +110,14 @@ fn write_two(first: &[u32], second: &[u32], out: &mut [u8]) -> Written
     ensures { λ r. ⌜ r ≡ writeAnswer (tableIn (now (first .entry)) ∷ tableIn (now (second .entry)) ∷ []) (length (now (out .entry))) ⌝ }
     ensures { λ _. ⌜ now (out .exit) ≡ bufferAfter (tableIn (now (first .entry)) ∷ tableIn (now (second .entry)) ∷ []) (now (out .entry)) ⌝ }
 {
-    let next = TWO_OFFSETS + size_of(first);
+    let next = TWO_OFFSETS_END + size_of(first);
     let end = next + size_of(second);
     if out.len() < end {
         return Written::Refused(SHORT_BUFFER);
     }
     put_head(out, 2, end);
-    put_two(out, ONE_OFFSET, next);
-    put_table(out, TWO_OFFSETS, first);
+    put_two(out, ONE_OFFSET_END, next);
+    put_table(out, TWO_OFFSETS_END, first);
     put_table(out, next, second);
     Written::Length(end as u32)
 }

@@ -1,7 +1,7 @@
 -- `put_four` meets its contract.
 use mathlib.Core.Path.{_∙_}
 use borrow.Author.Needs.{needs}
-use Rattle.book.specs.Bytes.{twoBytes, fourBytes}
+use Rattle.book.specs.Bytes.{fourBytes}
 use Rattle.book.proofs.Stored.{stored-two}
 use Rattle.book.proofs.Books.{length-two}
 use Rattle.book.proofs.bytes.put_four.Statement.{statement}

@@ -28,15 +28,21 @@ returns-5 c = found (same (omega arith) (pass (omega arith) (pass (omega arith) 
 
 returns-6 : tie.Need-returns-6
 unfolding tableChecks
-returns-6 c = found (same (omega arith) (pass (omega arith) (pass (omega arith) (pass (omega arith) (pass (omega arith) (other (λ e. omega arith)))))))
+returns-6 c =
+    found (same (omega arith) (pass (omega arith) (pass (omega arith)
+    (pass (omega arith) (pass (omega arith) (other (λ e. omega arith)))))))
 
 returns-7 : tie.Need-returns-7
 unfolding tableChecks
-returns-7 c = found (same (omega arith) (pass (omega arith) (pass (omega arith) (pass (omega arith) (pass (omega arith) (same (omega arith) (over (omega arith))))))))
+returns-7 c =
+    found (same (omega arith) (pass (omega arith) (pass (omega arith)
+    (pass (omega arith) (pass (omega arith) (same (omega arith) (over (omega arith))))))))
 
 returns-8 : tie.Need-returns-8
 unfolding tableChecks
-returns-8 c = found (same (omega arith) (pass (omega arith) (pass (omega arith) (pass (omega arith) (pass (omega arith) (same (omega arith) (pass (omega arith) none)))))))
+returns-8 c =
+    found (same (omega arith) (pass (omega arith) (pass (omega arith)
+    (pass (omega arith) (pass (omega arith) (same (omega arith) (pass (omega arith) none)))))))
 
 pub table-fault-spec : {M : Type 1} → statement M
 table-fault-spec =

@@ -58,7 +58,8 @@ unfolding headChecks
 table-fault-requires c κs = let h = held _ (c .before .before .before .before .pre) in omega arith
 
 now-at : (c : tie.After-table-fault Inv-loop μ-loop)
-    → Turn (c .before .before .before .before .before .args .b .now) (c .before .before .loop .at) (c .before .before .loop .j) (c .table-fault .result)
+    → let l = c .before .before in
+    Turn (l .before .before .before .args .b .now) (l .loop .at) (l .loop .j) (c .table-fault .result)
 now-at c = turn _ _ _ _ (c .before .before .loop .inv) (omega arith) (c .table-fault .ensures)
 
 returns : tie.Need-returns Inv-loop μ-loop

@@ -36,8 +36,9 @@ record Turn (b : List ℕ) (start total at i n : ℕ) (r : Row) : Type 0 where
   pub stops : (n ≡ 0 → ⊥) → n ≡ tableFault (tableFrom b start)
   pub goes : n ≡ 0 → Swept b start (total + r .obligors .0) (at + 12) (i + 1)
 
-turn : (b : List ℕ) (start total at i n : ℕ) (r : Row) → Swept b start total at i → i < gradesAt b start → gradesAt b start ≤ 40 → r .defaults ≤ 4_294_967_295
-    → gradeOf r ≡ cappedGrade (gradeIn b (kindAt b start) at) → n ≡ fault (rowChecks (gradeOf r)) → Turn b start total at i n r
+turn : (b : List ℕ) (start total at i n : ℕ) (r : Row) → Swept b start total at i → i < gradesAt b start → gradesAt b start ≤ 40
+    → r .defaults ≤ 4_294_967_295 → gradeOf r ≡ cappedGrade (gradeIn b (kindAt b start) at) → n ≡ fault (rowChecks (gradeOf r))
+    → Turn b start total at i n r
 unfolding rowsFault obligorsIn
 turn b start total at i n r inv h few w e en =
     let k = kindAt b start in

@@ -1,11 +1,10 @@
 -- `store` meets its contract. The invariant: to store the rows from row i on is to store all.
-use Prim.Native.Nat.{ℕ, suc, _+_, _-_, _*_, _≤_, _<_}
-use mathlib.Core.Path.{_≡_, refl, sym, ap, _∙_}
-use mathlib.Core.List.{List, [], _∷_, map}
+use Prim.Native.Nat.{ℕ, _+_, _-_, _*_, _≤_, _<_}
+use mathlib.Core.Path.{_≡_, sym, ap, _∙_}
+use mathlib.Core.List.{List, map}
 use native.Mathlib.Nat.{sub-zero}
 use native.Mathlib.Omega.{arith}
 use lib.ListN.{length, set, length-set, length-map}
-use lib.Seq.{set-comm}
 use Rattle.table.specs.Table.{Table, Grade}
 use Rattle.table.specs.Place.{fresh, placeOf}
 use Rattle.table.specs.Words.{wordsOf}
@@ -16,41 +15,16 @@ use Rattle.book.specs.Rows.{gradeIn, gradesIn, tableFrom, tableOfRater}
 use Rattle.book.specs.Reading.{gradeOf, cappedGrade, readFault}
 use Rattle.book.proofs.Rows.{rows-end, rows-at, length-rows, cappedTable, capped-le, capped-exact}
 use Rattle.book.proofs.Accept.{checked, sound-read}
-use Rattle.book.proofs.Filled.{columnsAfter, place-filled}
+use Rattle.book.proofs.Filled.{columnsAfter, row-stored, place-filled}
 use Rattle.book.proofs.reader.store.Statement.{statement}
 use Rattle.book.proofs.reader.store.Tie as tie
-
--- a number behind a stored list, stored before or after it
-stored-set : (v l : List ℕ) (at k x : ℕ) → at + length v ≤ k → stored (set l k x) at v ≡ set (stored l at v) k x
-unfolding stored
-stored-set [] l at k x h = refl
-stored-set (y ∷ v) l at k x h =
-    ap (λ (m : List ℕ). stored m (suc at) v) (set-comm l k at x y (λ e. omega arith)) ∙ stored-set v (set l at y) (suc at) k x (omega arith)
-
--- one row and the rest of three columns
-row-stored : (w os ds ps : List ℕ) (i x y z : ℕ) → length os ≤ 39 → length ds ≤ 39
-    → stored (stored (stored (set (set (set w i x) (40 + i) y) (80 + i) z) (i + 1) os) (40 + (i + 1)) ds) (80 + (i + 1)) ps
-    ≡ stored (stored (stored w i (x ∷ os)) (40 + i) (y ∷ ds)) (80 + i) (z ∷ ps)
-unfolding stored
-row-stored w os ds ps i x y z h k =
-    let c : 80 + (i + 1) ≡ suc (80 + i) = omega arith in
-    let b : 40 + (i + 1) ≡ suc (40 + i) = omega arith in
-    let a : i + 1 ≡ suc i = omega arith in
-    rw (
-      c,
-      b,
-      a,
-      stored-set os (set (set w i x) (40 + i) y) (suc i) (80 + i) z (omega arith),
-      stored-set os (set w i x) (suc i) (40 + i) y (omega arith),
-      stored-set ds (set (stored (set w i x) (suc i) os) (40 + i) y) (suc (40 + i)) (80 + i) z (omega arith),
-    )
 
 -- the rows to come
 abbrev rest : List ℕ → ℕ → ℕ → ℕ → Table
 rest b start at i = cappedTable (gradesIn b (kindAt b start) (gradesAt b start - i) at)
 
 -- the table that starts here is in the book
-record Here (b : List ℕ) (start : ℕ) : Type 0 where
+record InBook (b : List ℕ) (start : ℕ) : Type 0 where
   pub few : gradesAt b start ≤ 40
   pub inside : endOf b start ≤ length b
 
@@ -58,7 +32,7 @@ record Put (b : List ℕ) (start : ℕ) (before words : List ℕ) (at i : ℕ) :
   pub to : i ≤ gradesAt b start
   pub here : at ≡ start + 4 + 12 * i
   pub long : length words ≡ 122
-  pub table : Here b start
+  pub table : InBook b start
   pub whole : columnsAfter words i (rest b start at i) ≡ columnsAfter before 0 (cappedTable (tableFrom b start))
 
 put : (b : List ℕ) (start : ℕ) (before w : List ℕ) (at i : ℕ) (r : Row) → Put b start before w at i → i < gradesAt b start
@@ -99,14 +73,20 @@ Inv-loop book rater place₀ start grades kind at₀ i₀ place at i = Put book 
 abbrev μ-loop : tie.MeasureT-loop
 μ-loop book rater place₀ start grades kind at₀ i₀ place at i = grades - i
 
-here : (c : tie.After-start-of Inv-loop μ-loop) → Here (c .before .before .before .args .book .now) (c .start-of .result)
+here : (c : tie.After-start-of Inv-loop μ-loop) → InBook (c .before .before .before .args .book .now) (c .start-of .result)
 here c = let s = checked _ _ (c .before .before .before .pre .0) .standing in rw (c .start-of .ensures) record { few = s .few; inside = s .inside }
 
 start-of-requires : tie.Need-start-of-requires Inv-loop μ-loop
 start-of-requires c κs = let s = checked _ _ (c .before .before .pre .0) .standing in (s .from, s .head)
 
 loop-holds : tie.Need-loop-holds Inv-loop μ-loop
-loop-holds c = record { to = omega arith; here = omega arith; long = ap length (c .before .before .before .before .before .pre .1); table = here (c .before .before); whole = rw sub-zero }
+loop-holds c = record {
+  to = omega arith;
+  here = omega arith;
+  long = ap length (c .before .before .before .before .before .pre .1);
+  table = here (c .before .before);
+  whole = rw sub-zero;
+}
 
 loop-again : tie.Need-loop-again Inv-loop μ-loop
 loop-again c =

@@ -37,7 +37,8 @@ put p whole size start out at i next inv h e =
     }
 
 -- grade i stands at three words
-grade-at : (w : List ℕ) (i : ℕ) → i < 40 → record { obligors = getD w i 0; defaults = getD w (40 + i) 0; announced = getD w (80 + i) 0 } ≡ gradeAt (placeIn w) i
+grade-at : (w : List ℕ) (i : ℕ) → i < 40
+    → record { obligors = getD w i 0; defaults = getD w (40 + i) 0; announced = getD w (80 + i) 0 } ≡ gradeAt (placeIn w) i
 grade-at w i h = rw (← column-at w 0 i h, zero-add, ← column-at w 40 i h, ← column-at w 80 i h)
 
 abbrev Inv-loop : tie.InvT-loop

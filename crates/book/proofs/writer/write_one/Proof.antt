@@ -25,7 +25,8 @@ returns-2 c =
     let first = second .before .before .before .before in
     let s = first .before .before .before in
     let e = size s in
-    fits _ (now (s .before .before .before .args .out)) _ _ (omega arith) (omega arith) (ap Length e) (rw (second .put-table .ensures, first .put-head .ensures) (one-stored _ _ _ e))
+    fits _ (now (s .before .before .before .args .out)) _ _ (omega arith) (omega arith) (ap Length e)
+    (rw (second .put-table .ensures, first .put-head .ensures) (one-stored _ _ _ e))
 
 pub write-one-spec : {M : Type 1} → statement M
 write-one-spec =

@@ -32,7 +32,8 @@ returns-2 c =
     let first = second .before .before .before .before in
     let s = first .before .before .before in
     fits _ (now (s .before .before .before .before .before .args .out)) _ _ (omega arith) (omega (arith, size s)) (ap Length (size s))
-    (rw (fourth .put-table2 .ensures, third .put-table .ensures, second .put-two .ensures, first .put-head .ensures) (two-stored _ _ _ _ _ (next s) (size s)))
+    (rw (fourth .put-table2 .ensures, third .put-table .ensures, second .put-two .ensures, first .put-head .ensures)
+    (two-stored _ _ _ _ _ (next s) (size s)))
 
 pub write-two-spec : {M : Type 1} → statement M
 write-two-spec =
