@@ -1,3 +1,4 @@
 pub mod Leaves
 pub mod Answered
 pub mod Asked
+pub mod Compared

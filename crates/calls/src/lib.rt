@@ -15,12 +15,12 @@ ghost use Rattle.calls.specs.Calls.{emptyFault, questionFault, cheapest,
 
 mod pair;
 
-pub use pair::compare;
 use cutoff::CheapestCutoff;
 use cutoff::PRICE;
 use cutoff::Verdict;
 use measures::Measures;
 use measures::UnsignedFraction;
+pub use pair::compare;
 use refusals::HIGH_PRICE;
 use refusals::NO_DEFAULTS;
 use refusals::NO_SURVIVORS;

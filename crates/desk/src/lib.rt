@@ -14,7 +14,6 @@ ghost use Rattle.calls.specs.Calls.{cheapest, measures, brier, pool, load, clea
 ghost use Rattle.desk.specs.Desk.{freshDesk, placeAt, tableAt, withPlace, SoundDesk};
 ghost use Rattle.desk.specs.Answers.{ackSays, writtenSays};
 ghost use Rattle.desk.specs.Calls.{placeFault, ask, fill, write, change, numberOf, after, lentAfter, loadedTables, Compares, Spreads};
-
 use book::Written;
 use calls::BrierAnswer;
 use calls::CheapestAnswer;
@@ -94,7 +93,11 @@ impl Desk {
     fn mark(self, place: u32) -> [u32; PLACE]
         ensures { λ r. ⌜ r ≡ wordsOf (marked (placeAt self place .loaded)) ⌝ }
     {
-        let loaded = if place == 1 { self.first.loaded } else { self.second.loaded };
+        let loaded = if place == 1 {
+            self.first.loaded
+        } else {
+            self.second.loaded
+        };
         let mut words = [0u32; PLACE];
         if loaded {
             words[LOADED] = 1;

@@ -28,8 +28,7 @@ loop-again c =
     let a = c .before .before .before .before .before .before in
     let l = c .before .loop in
     let e : l .i + 1 ≡ suc (l .i) = omega arith in
-    let z : 0 + l .i ≡ l .i = omega arith in
-    (
+    let z : 0 + l .i ≡ l .i = omega arith in (
       rw (e, l .inv .0) (ap (λ (k : ℕ). set (paste (now (a .args .place)) 0 (replicate 122 0) (l .i)) k 0) (sym z) ∙ rw (zeros-at 122 (l .i)) at (paste-suc (now (a .args .place)) 0 (replicate 122 0) (l .i) 0 (omega arith) (omega arith))),
       rw length-set (l .inv .1),
       omega arith,

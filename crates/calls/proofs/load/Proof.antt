@@ -25,14 +25,22 @@ returns-2 : tie.Need-returns-2
 unfolding changeFault
 returns-2 c =
     let l = c .before .before .before in
-    (go (unloaded _ _ (l .is-loaded .ensures) (c .before .before .if1 .left)) (c .before .read-fault .ensures), keeps _ _ _ (λ z. ?))
+    (go (unloaded _ _ (l .is-loaded .ensures) (c .before .before .if1 .left)) (c .before .read-fault .ensures), keeps (c .before .read-fault .result) _ _ (c .if2 .taken))
 
 store-requires : tie.Need-store-requires
-store-requires c κs = ?
+store-requires c κs =
+    let f = c .before .before in
+    let l = f .before .before in
+    (sym (f .read-fault .ensures) ∙ c .before .if2 .left, l .before .before .before .before .pre .unused (sym (l .is-loaded .ensures) ∙ f .before .if1 .left))
 
 returns-3 : tie.Need-returns-3
 unfolding changeFault
-returns-3 c = ?
+returns-3 c =
+    let f = c .before .before .before .before .before in
+    let l = f .before .before in (
+      go (unloaded _ _ (l .is-loaded .ensures) (f .before .if1 .left)) (sym (c .before .before .before .before .if2 .left) ∙ f .read-fault .ensures),
+      c .before .before .store .ensures,
+    )
 
 pub load-spec : {M : Type 1} → statement M
 load-spec =
