@@ -1,2 +1,4 @@
 pub mod Number
 pub mod Soundness
+pub mod Asked
+pub mod Changed

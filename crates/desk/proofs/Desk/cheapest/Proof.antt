@@ -1,26 +1,36 @@
 -- `cheapest` meets its contract.
 use native.Mathlib.Omega.{arith}
 use borrow.Author.Needs.{needs}
-use Rattle.book.specs.Checks.{first, fault}
-use Rattle.book.proofs.Checks.{stop}
-use Rattle.desk.specs.Calls.{heldFault, cheapestFault}
-use Rattle.desk.proofs.Answered.{refuses, no-held}
+use Rattle.table.specs.declared.Place.{Place}
+use Rattle.table.specs.Place.{tableOf}
+use Rattle.cutoff.specs.Cutoff.{cheapestOf}
+use Rattle.calls.specs.Calls.{cheapest}
+use Rattle.calls.proofs.Answered.{refuses}
+use Rattle.desk.proofs.Number.{there, missing}
+use Rattle.desk.proofs.Asked.{words-place, answered}
 use Rattle.desk.proofs.Desk.cheapest.Statement.{statement}
 use Rattle.desk.proofs.Desk.cheapest.Tie as tie
 
 returns : tie.Need-returns
-unfolding cheapestFault heldFault first fault
-returns c = rw (c .before .match .keys1) (c .cheapest .ensures)
+returns c = refuses 1 _ (missing _ _ _ (c .before .is-place .ensures) (c .if1 .taken)) (λ z. omega arith)
+
+requires-place : tie.Need-cheapest-requires
+requires-place c κs = words-place _ _ (c .before .before .before .before .pre) (c .before .words .ensures)
 
 returns-2 : tie.Need-returns-2
-unfolding cheapestFault heldFault first fault
-returns-2 c = rw (c .before .match .keys2) (c .cheapest2 .ensures)
-
-returns-3 : tie.Need-returns-3
-unfolding cheapestFault
-returns-3 c =
-    let r = c .match .rest in
-    refuses 1 _ (stop _ (no-held _ (r .0 .1) (r .1)) (λ z. omega arith)) (λ z. omega arith)
+returns-2 c =
+    let l = c .before .before .before in
+    let a = l .before .before in
+    let here = there (a .args .place) _ (l .before .is-place .ensures) (l .if1 .left) in
+    answered _ _ (a .pre) (c .before .before .words .ensures) here (cheapest (a .args .u) (a .args .v)) (λ (p : Place). cheapestOf (tableOf p) (a .args .u) (a .args .v)) (c .cheapest .ensures)
 
 pub cheapest-spec : {M : Type 1} → statement M
-cheapest-spec = tie.close (tie.spec (λ c κs. search needs) (λ c κs. search needs) returns returns-2 returns-3)
+cheapest-spec =
+    tie.close
+    (tie.spec
+    (λ c κs. search needs)
+    returns
+    (λ c κs. search needs)
+    (λ c. search needs)
+    requires-place
+    returns-2)

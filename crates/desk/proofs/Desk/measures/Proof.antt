@@ -1,26 +1,36 @@
 -- `measures` meets its contract.
 use native.Mathlib.Omega.{arith}
 use borrow.Author.Needs.{needs}
-use Rattle.book.specs.Checks.{first, fault}
-use Rattle.book.proofs.Checks.{stop}
-use Rattle.desk.specs.Calls.{heldFault, measuresFault}
-use Rattle.desk.proofs.Answered.{refuses, no-held}
+use Rattle.table.specs.declared.Place.{Place}
+use Rattle.table.specs.Place.{tableOf}
+use Rattle.measures.specs.Measures.{measuresOf}
+use Rattle.calls.specs.Calls.{measures}
+use Rattle.calls.proofs.Answered.{refuses}
+use Rattle.desk.proofs.Number.{there, missing}
+use Rattle.desk.proofs.Asked.{words-place, answered}
 use Rattle.desk.proofs.Desk.measures.Statement.{statement}
 use Rattle.desk.proofs.Desk.measures.Tie as tie
 
 returns : tie.Need-returns
-unfolding measuresFault heldFault first fault
-returns c = rw (c .before .match .keys1) (c .measures .ensures)
+returns c = refuses 1 _ (missing _ _ _ (c .before .is-place .ensures) (c .if1 .taken)) (λ z. omega arith)
+
+requires-place : tie.Need-measures-requires
+requires-place c κs = words-place _ _ (c .before .before .before .before .pre) (c .before .words .ensures)
 
 returns-2 : tie.Need-returns-2
-unfolding measuresFault heldFault first fault
-returns-2 c = rw (c .before .match .keys2) (c .measures2 .ensures)
-
-returns-3 : tie.Need-returns-3
-unfolding measuresFault
-returns-3 c =
-    let r = c .match .rest in
-    refuses 1 _ (stop _ (no-held _ (r .0 .1) (r .1)) (λ z. omega arith)) (λ z. omega arith)
+returns-2 c =
+    let l = c .before .before .before in
+    let a = l .before .before in
+    let here = there (a .args .place) _ (l .before .is-place .ensures) (l .if1 .left) in
+    answered _ _ (a .pre) (c .before .before .words .ensures) here measures (λ (p : Place). measuresOf (tableOf p)) (c .measures .ensures)
 
 pub measures-spec : {M : Type 1} → statement M
-measures-spec = tie.close (tie.spec (λ c κs. search needs) (λ c κs. search needs) returns returns-2 returns-3)
+measures-spec =
+    tie.close
+    (tie.spec
+    (λ c κs. search needs)
+    returns
+    (λ c κs. search needs)
+    (λ c. search needs)
+    requires-place
+    returns-2)

@@ -2,22 +2,35 @@
 use mathlib.Core.Path.{sym}
 use native.Mathlib.Omega.{arith}
 use borrow.Author.Needs.{needs}
-use Rattle.book.specs.Checks.{first, fault}
-use Rattle.desk.specs.Calls.{heldFault}
-use Rattle.desk.proofs.Answered.{no-held}
+use Rattle.table.specs.declared.Place.{Place}
+use Rattle.table.specs.Place.{tableOf}
+use Rattle.spread.specs.Spread.{IsSpread}
+use Rattle.calls.specs.Calls.{spread}
+use Rattle.desk.proofs.Number.{there, missing}
+use Rattle.desk.proofs.Asked.{words-place, limited}
 use Rattle.desk.proofs.Desk.spread.Statement.{statement}
 use Rattle.desk.proofs.Desk.spread.Tie as tie
 
 returns : tie.Need-returns
-unfolding heldFault first fault
-returns c = rw (c .before .match .keys1) (c .spread .ensures)
+returns c = (sym (missing _ _ _ (c .before .is-place .ensures) (c .if1 .taken)), λ z. omega arith)
+
+requires-place : tie.Need-spread-requires
+requires-place c κs = words-place _ _ (c .before .before .before .before .pre) (c .before .words .ensures)
 
 returns-2 : tie.Need-returns-2
-unfolding heldFault first fault
-returns-2 c = rw (c .before .match .keys2) (c .spread2 .ensures)
-
-returns-3 : tie.Need-returns-3
-returns-3 c = let r = c .match .rest in (sym (no-held _ (r .0 .1) (r .1)), λ z. omega arith)
+returns-2 c =
+    let l = c .before .before .before in
+    let a = l .before .before in
+    let here = there (a .args .place) _ (l .before .is-place .ensures) (l .if1 .left) in
+    limited _ _ (a .pre) (c .before .before .words .ensures) here spread (λ (p : Place). IsSpread (tableOf p)) _ (c .spread .ensures)
 
 pub spread-spec : {M : Type 1} → statement M
-spread-spec = tie.close (tie.spec (λ c κs. search needs) (λ c κs. search needs) returns returns-2 returns-3)
+spread-spec =
+    tie.close
+    (tie.spec
+    (λ c κs. search needs)
+    returns
+    (λ c κs. search needs)
+    (λ c. search needs)
+    requires-place
+    returns-2)

@@ -1,0 +1,45 @@
+-- A call on a place of the desk is the call on its words: the place that they stand for is that place, and 1 is no fault.
+use Prim.Native.Nat.{ℕ}
+use mathlib.Core.Path.{_≡_, sym, ap, _∙_, subst}
+use mathlib.Core.List.{List}
+use lib.Dec.{eqb}
+use Rattle.table.specs.declared.Place.{Place}
+use Rattle.table.specs.Place.{tableOf, SoundPlace}
+use Rattle.table.specs.Words.{wordsOf, placeIn, IsPlace}
+use Rattle.table.proofs.Test.{by-test}
+use Rattle.table.proofs.Words.{long-place, place-back, is-place}
+use Rattle.book.proofs.Checks.{first-none}
+use Rattle.calls.specs.Answers.{Answer, answer, Limited}
+use Rattle.calls.specs.Calls.{Question, questionFault}
+use Rattle.desk.specs.declared.Desk.{Desk}
+use Rattle.desk.specs.Desk.{placeAt, SoundDesk}
+use Rattle.desk.specs.Calls.{placeFault, ask, numberOf}
+
+pub place-sound : (d : Desk) (i : ℕ) → SoundDesk d → SoundPlace (placeAt d i)
+place-sound d i s = by-test SoundPlace (eqb i 1) {l = d .first} {r = d .second} (λ _. s .first) (λ _. s .second)
+
+module _ (d : Desk) (i : ℕ) (s : SoundDesk d) {w : List ℕ} (words : w ≡ wordsOf (placeAt d i)) where
+  pub words-place : IsPlace w
+  words-place = rw words (is-place (place-sound d i s))
+
+  pub place-is : placeIn w ≡ placeAt d i
+  place-is = ap (λ (x : List ℕ). placeIn x) words ∙ place-back (placeAt d i) (long-place (place-sound d i s))
+
+  module _ (here : placeFault i ≡ 0) (q : Question) where
+    number-is : questionFault (placeAt d i) q ≡ numberOf d (ask i q)
+    number-is = sym (first-none (placeFault i) _ here)
+
+    -- the answer f p to a question of p
+    pub answered : {A : Type 0} (f : Place → A) {r : Answer A} → r ≡ answer (questionFault (placeIn w) q) (f (placeIn w))
+        → r ≡ answer (numberOf d (ask i q)) (f (placeAt d i))
+    answered f e =
+        e
+        ∙ ap (λ (p : Place). answer (questionFault p q) (f p)) place-is
+        ∙ ap (λ (n : ℕ). answer n (f (placeAt d i))) number-is
+
+    -- an answer that is only limited
+    pub limited : {A : Type 0} (P : Place → A → Type 0) (r : Answer A) → Limited (questionFault (placeIn w) q) (P (placeIn w)) r
+        → Limited (numberOf d (ask i q)) (P (placeAt d i)) r
+    limited P r l =
+        subst (λ (n : ℕ). Limited n (P (placeAt d i)) r) number-is
+        (subst (λ (p : Place). Limited (questionFault p q) (P p) r) place-is l)
