@@ -182,8 +182,10 @@ pub fn judge(first: &[u32], second: &[u32]) -> Verdict
     let ours_from = blocks_of(first, &mut ours);
     let mut theirs = [0u32; BLOCKS];
     let theirs_from = blocks_of(second, &mut theirs);
-    let first_dearer = where_dearer(&ours[ours_from..], &theirs[theirs_from..]);
-    let second_dearer = where_dearer(&theirs[theirs_from..], &ours[ours_from..]);
+    let our_blocks = &ours[ours_from..];
+    let their_blocks = &theirs[theirs_from..];
+    let first_dearer = where_dearer(our_blocks, their_blocks);
+    let second_dearer = where_dearer(their_blocks, our_blocks);
     match first_dearer {
         Dearer::Nowhere => match second_dearer {
             Dearer::Nowhere => Verdict::Equal,
