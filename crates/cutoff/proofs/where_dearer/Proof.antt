@@ -138,7 +138,8 @@ cost-small c = let turn = c .before .before .before in sizes (turn .before .loop
 cuts : (c : tie.Joined1 Inv-loop μ-loop)
     → let l = c .before .before .before .before in
     let a = l .before .before .before .args in
-    CutsAt (blockBefore (blocksIn (now (a .first))) (l .loop .inv .one .count)) (scaleIn (now (a .second))) (scaleFrom (blocksIn (now (a .second))) (l .loop .inv .two .count))
+    CutsAt (blockBefore (blocksIn (now (a .first))) (l .loop .inv .one .count)) (scaleIn (now (a .second)))
+    (scaleFrom (blocksIn (now (a .second))) (l .loop .inv .two .count))
 cuts c =
     let turn = c .before .before .before in
     let inv = turn .before .loop .inv in
