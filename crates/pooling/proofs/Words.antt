@@ -6,7 +6,7 @@ use native.Mathlib.Nat.{add-zero}
 use native.Mathlib.Numerals.{add-one}
 use native.Mathlib.Omega.{arith}
 use lib.ListN.{length, getD, take, drop, length-drop}
-use lib.Seq.{take-suc, drop-cons, drop-drop, getD-drop}
+use lib.Seq.{take-all, take-suc, drop-cons, drop-drop, getD-drop}
 use Rattle.pooling.specs.Pool.{Block, blockWords, blockAt, blocksIn}
 
 pub blocks-back : (bs : List Block) → blocksIn (blockWords bs) ≡ bs
@@ -29,15 +29,16 @@ block-first w at b bs e =
     let d : getD w (at + 2) 0 ≡ b .defaults = sym (getD-drop at w 2 0) ∙ ap (λ (l : List ℕ). getD l 2 0) e in
     rw (g, n, d) refl
 
+-- How many words they take.
+pub count-words : (w : List ℕ) (at : ℕ) (bs : List Block) → drop at w ≡ blockWords bs → length w - at ≡ 3 * length bs
+count-words w at bs e = rw (← length-words bs, ← e, length-drop)
+
 -- The first of them, and the others.
 pub record First (w : List ℕ) (at : ℕ) (bs : List Block) : Type 0 where
   pub others : List Block
   pub split : bs ≡ blockAt w at ∷ others
   pub words : drop (at + 3) w ≡ blockWords others
   pub room : at + 3 ≤ length w
-
-pub count-words : (w : List ℕ) (at : ℕ) (bs : List Block) → drop at w ≡ blockWords bs → length w - at ≡ 3 * length bs
-count-words w at bs e = rw (← length-words bs, ← e, length-drop)
 
 pub first : (w : List ℕ) (at : ℕ) (bs : List Block) → drop at w ≡ blockWords bs → at < length w → First w at bs
 unfolding blockWords
@@ -49,6 +50,10 @@ first w at (b ∷ bs) e h =
       words = sym (drop-drop 3 at w) ∙ ap (λ (l : List ℕ). drop 3 l) e;
       room = omega (arith, count-words w at (b ∷ bs) e);
     }
+
+-- A part that reaches to the end is those words.
+pub words-part : (w : List ℕ) (at n : ℕ) (bs : List Block) → drop at w ≡ blockWords bs → length w ≡ n → take (n - at) (drop at w) ≡ blockWords bs
+words-part w at n bs e h = rw e (take-all (n - at) (blockWords bs) (omega (arith, h, length-words bs, count-words w at bs e)))
 
 -- Where the words end, there is none.
 pub no-block : (w : List ℕ) (at : ℕ) (bs : List Block) → drop at w ≡ blockWords bs → length w ≤ at → bs ≡ []

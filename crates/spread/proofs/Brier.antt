@@ -18,7 +18,7 @@ use Rattle.pooling.proofs.Front.{AtMostRate}
 use Rattle.pooling.proofs.Runs.{Cut, none, more, pool-cut}
 use Rattle.pooling.proofs.Scaled.{Over, over-nought, over-ratio, over-own, over-same, over-sum, over-difference, over-times, over-square, equal}
 use Rattle.spread.specs.Spread.{residualOf, residualSum}
-use Rattle.spread.specs.Brier.{brierOf, brierSum}
+use Rattle.spread.specs.Brier.{brierOfRate, brierSumOfRates}
 use Rattle.spread.proofs.Fractions.{sum-assoc, sum-nought, sum-equal}
 
 -- One rate for all grades of a run: d out of n.
@@ -36,13 +36,13 @@ module _ (n d : ℕ) (part : d ≤ n) where
   squared : {x : Fraction} {a : ℕ} → Over n 0 x a → Over (n * n) 0 (square x) (a * a)
   squared h = over-same (over-square h) 0 _ (omega arith)
 
-  brier-grade : (r : Grade) → Over (n * n) 0 (brierOf r rate) (r .defaults * ((n - d) * (n - d)) + survivors r * (d * d))
+  brier-grade : (r : Grade) → Over (n * n) 0 (brierOfRate r rate) (r .defaults * ((n - d) * (n - d)) + survivors r * (d * d))
   brier-grade r =
       over-same (over-sum (over-times (squared defaulted) (r .defaults)) (over-times (squared survived) (survivors r))) 0 _ (omega arith)
 
   brier-level : (t : Table)
-      → Over (n * n) 0 (brierSum t (replicate (length t) rate)) (defaultsIn t * ((n - d) * (n - d)) + survivorsIn t * (d * d))
-  unfolding brierSum defaultsIn survivorsIn
+      → Over (n * n) 0 (brierSumOfRates t (replicate (length t) rate)) (defaultsIn t * ((n - d) * (n - d)) + survivorsIn t * (d * d))
+  unfolding brierSumOfRates defaultsIn survivorsIn
   brier-level [] = over-same (over-nought (n * n)) 0 _ (omega arith)
   brier-level (r ∷ t) = over-same (over-sum (brier-grade r) (brier-level t)) 0 _ (omega arith)
 
@@ -50,7 +50,7 @@ module _ (n d : ℕ) (part : d ≤ n) where
 abbrev Filled : Table → Type 0
 Filled t = Every Counted t × (1 ≤ obligorsIn t)
 
-brier-run : (t : Table) → Filled t → Equal (residualOf (blockOf t)) (brierSum t (replicate (length t) (rateOf (blockOf t))))
+brier-run : (t : Table) → Filled t → Equal (residualOf (blockOf t)) (brierSumOfRates t (replicate (length t) (rateOf (blockOf t))))
 brier-run t h =
     let n = obligorsIn t in
     let d = defaultsIn t in
@@ -64,13 +64,13 @@ brier-run t h =
 -- The runs of a table.
 
 brier-append : (t u : Table) (x : Fraction) (q : List Fraction)
-    → brierSum (t ++ u) (replicate (length t) x ++ q) ≡ sum (brierSum t (replicate (length t) x)) (brierSum u q)
-unfolding brierSum
-brier-append [] u x q = sym (sum-nought (brierSum u q))
-brier-append (r ∷ t) u x q = rw (brier-append t u x q) (sym (sum-assoc (brierOf r x) _ _))
+    → brierSumOfRates (t ++ u) (replicate (length t) x ++ q) ≡ sum (brierSumOfRates t (replicate (length t) x)) (brierSumOfRates u q)
+unfolding brierSumOfRates
+brier-append [] u x q = sym (sum-nought (brierSumOfRates u q))
+brier-append (r ∷ t) u x q = rw (brier-append t u x q) (sym (sum-assoc (brierOfRate r x) _ _))
 
-cut-brier : {t : Table} {bs : List Block} → Cut Filled t bs → Equal (residualSum bs) (brierSum t (ratesIn bs))
-unfolding residualSum brierSum ratesIn
+cut-brier : {t : Table} {bs : List Block} → Cut Filled t bs → Equal (residualSum bs) (brierSumOfRates t (ratesIn bs))
+unfolding residualSum brierSumOfRates ratesIn
 cut-brier none = refl
 cut-brier (more {r = r} {t = t} {u = u} {bs = bs} f k) =
     rw (brier-append (r ∷ t) u _ (ratesIn bs)) (sum-equal _ _ _ _ (brier-run (r ∷ t) f) (cut-brier k))
@@ -82,5 +82,5 @@ filled-single : (r : Grade) → Occupied r → Counted r → Filled (r ∷ [])
 unfolding obligorsIn
 filled-single r o c = ((c, tt), omega arith)
 
-pub residual-brier : (t : Table) → Every Occupied t → Every Counted t → Equal (residualSum (pool t)) (brierSum t (pooledRates t))
+pub residual-brier : (t : Table) → Every Occupied t → Every Counted t → Equal (residualSum (pool t)) (brierSumOfRates t (pooledRates t))
 residual-brier t o c = cut-brier (pool-cut Filled filled-append t (every-map₂ filled-single t o c))

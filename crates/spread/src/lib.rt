@@ -1,19 +1,18 @@
 // The spread record: two floats, each with a proved error bound.
 ghost use Prim.Native.Nat.{_-_, _*_, _≤_};
+ghost use mathlib.Core.Path.{_≡_};
 ghost use mathlib.Core.List.{map};
-ghost use lib.ListN.{length};
 ghost use Rattle.table.specs.Table.{Sound};
-ghost use Rattle.table.specs.Place.{tableOf, withColumns};
+ghost use Rattle.table.specs.Words.{tableIn, HoldsTable};
 ghost use Rattle.pooling.specs.Fraction.{ratio};
-ghost use Rattle.pooling.specs.Pool.{asGrade, blocksIn};
+ghost use Rattle.pooling.specs.Pool.{asGrade, blockWords, blocksIn};
 ghost use Rattle.spread.specs.Near.{Within};
 ghost use Rattle.spread.specs.Spread.{IsSpread, residualSum};
-use pooling::Blocks;
-use pooling::blocks_in;
-use table::GRADES;
+use pooling::BLOCKS;
+use pooling::block_at;
+use pooling::blocks_of;
 use table::Obligors;
-use table::Place;
-use table::totals_in;
+use table::totals_of;
 
 // The two numbers of document 01's spread record.
 pub struct Spread {
@@ -32,43 +31,33 @@ fn quotient(defaults: u32, obligors: Obligors) -> f64
     ((defaults as u64) * (survivors.0 as u64)) as f64 / obligors.0 as f64
 }
 
-// The sum over the blocks, best first, of block defaults times block survivors over block obligors. The blocks, as grades, are a table.
-fn residual(b: Blocks) -> f64
-    requires { ⌜ Sound (map asGrade (blocksIn b)) ⌝ }
-    ensures { λ r. ⌜ Within r (residualSum (blocksIn b)) 29 ⌝ }
+// The sum over the blocks in these words, best first, of block defaults times block survivors over block obligors. The blocks, as grades,
+// are a table.
+fn residual(items: &[u32]) -> f64
+    requires blocks { ⌜ now items ≡ blockWords (blocksIn (now items)) ⌝ }
+    requires sound { ⌜ Sound (map asGrade (blocksIn (now items))) ⌝ }
+    ensures { λ r. ⌜ Within r (residualSum (blocksIn (now (items .entry)))) 29 ⌝ }
 {
     let mut sum = 0.0;
-    let mut i = b.top;
-    while i < GRADES {
-        let x = b.items[i];
+    let mut at: usize = 0;
+    while at < items.len() {
+        let x = block_at(items, at);
         sum = sum + quotient(x.defaults, Obligors(x.obligors));
-        i += 1;
+        at += 3;
     }
     sum
 }
 
-// The spread of the table with these columns. Document 01 leaves the two floats free within their bounds, so the contract limits them.
-pub fn spread_in<'a>(
-    obligors: &'a [u32],
-    defaults: &'a [u32],
-    announced: &'a [u32],
-    grades: usize,
-) -> Spread
-    requires long { ⌜ (grades ≤ length (now obligors)) × (grades ≤ length (now defaults)) ⌝ }
-    requires sound { ⌜ Sound (tableOf (withColumns (now obligors) (now defaults) (now announced) grades)) ⌝ }
-    ensures { λ r. ⌜ IsSpread (tableOf (withColumns (now (obligors .entry)) (now (defaults .entry)) (now (announced .entry)) grades)) r ⌝ }
+// The spread of the table in a lent place. Document 01 leaves the two floats free within their bounds, so the contract limits them.
+pub fn spread_of(place: &[u32]) -> Spread
+    requires { ⌜ HoldsTable (now place) ⌝ }
+    ensures { λ r. ⌜ IsSpread (tableIn (now (place .entry))) r ⌝ }
 {
-    let t = totals_in(obligors, defaults, announced, grades);
+    let t = totals_of(place);
+    let mut items = [0; BLOCKS];
+    let start = blocks_of(place, &mut items);
     Spread {
         total: quotient(t.defaults, t.obligors),
-        residual: residual(blocks_in(obligors, defaults, announced, grades)),
+        residual: residual(&items[start..]),
     }
-}
-
-// The spread of the table in a place.
-pub fn spread_of(p: Place) -> Spread
-    requires { ⌜ Sound (tableOf p) ⌝ }
-    ensures { λ r. ⌜ IsSpread (tableOf p) r ⌝ }
-{
-    spread_in(&p.obligors, &p.defaults, &p.announced, p.grades)
 }
