@@ -1,6 +1,6 @@
--- Blocks as a scale, and where they stand in its words: what a loop that goes from the worst block to the best knows of them.
-use Prim.Native.Nat.{ℕ, _+_, _-_, _*_, _≤_, _<_}
-use mathlib.Core.Path.{_≡_, ap, _∙_}
+-- Blocks as a scale: what a loop that goes from the worst block to the best knows of it.
+use Prim.Native.Nat.{ℕ, _+_, _-_, _≤_, _<_}
+use mathlib.Core.Path.{_≡_}
 use mathlib.Core.List.{List, [], _∷_, _++_, map, map-append}
 use native.Mathlib.Omega.{arith}
 use lib.ListN.{length, take, drop, take-append-drop, drop-of-length-le}
@@ -8,8 +8,8 @@ use Rattle.table.specs.Table.{Table, Grade, Every, Counted, survivors, defaults
 use Rattle.table.proofs.Every.{every-split}
 use Rattle.table.proofs.Sums.{obligors-split, obligors-append}
 use Rattle.pooling.specs.declared.Block.{Block}
-use Rattle.pooling.specs.Pool.{Rising, asGrade, blockWords, blockAt, blocksIn}
-use Rattle.pooling.proofs.Words.{nth, nth-from, length-words, Last, last}
+use Rattle.pooling.specs.Pool.{Rising, asGrade}
+use Rattle.pooling.proofs.Words.{nth, nth-from}
 use Rattle.cutoff.proofs.Odds.{OddsRise, rising-odds}
 
 abbrev pub scaleOf : List Block → Table
@@ -75,32 +75,3 @@ next {bs} held k from to =
       counted = every-split Counted (scaleTo bs (k - 1)) (blockBefore bs k ∷ scaleFrom bs k) (rw split (held .counted)) .1 .0;
       small = omega (arith, rw down at (few held (k - 1)));
     }
-
--- k blocks stand before index i of the words w.
-pub record Stands (w : List ℕ) (i k : ℕ) : Type 0 where
-  pub words : w ≡ blockWords (blocksIn w)
-  pub few : k ≤ length (blocksIn w)
-  pub same : i ≡ 3 * k
-
--- The last of them.
-pub record Before (w : List ℕ) (i k : ℕ) : Type 0 where
-  pub some : 0 < k
-  pub inside : (3 ≤ i) × (i ≤ length w)
-  pub here : blockAt w (i - 3) ≡ nth (blocksIn w) (k - 1)
-  pub down : Stands w (i - 3) (k - 1)
-
-length-in : {w : List ℕ} → w ≡ blockWords (blocksIn w) → length w ≡ 3 * length (blocksIn w)
-length-in {w} e = ap length e ∙ length-words (blocksIn w)
-
-pub before : {w : List ℕ} {i k : ℕ} → Stands w i k → 0 < i → Before w i k
-before {w} {i} {k} s pos =
-    let l = last w (blocksIn w) 0 i (s .words) (record { count = k; few = s .few; same = omega (arith, s .same) }) pos in
-    record {
-      some = l .some;
-      inside = omega (arith, s .same, s .few, length-in (s .words));
-      here = l .here;
-      down = record { words = s .words; few = omega (arith, l .few); same = omega (arith, l .same) };
-    }
-
-pub stand-all : {w : List ℕ} → w ≡ blockWords (blocksIn w) → Stands w (length w) (length (blocksIn w))
-stand-all e = record { words = e; few = omega arith; same = length-in e }

@@ -179,11 +179,13 @@ pub fn judge(first: &[u32], second: &[u32]) -> Verdict
     ensures { λ r. ⌜ IsVerdict (tableIn (now (first .entry))) (tableIn (now (second .entry))) r ⌝ }
 {
     let mut ours = [0u32; BLOCKS];
-    let from = blocks_of(first, &mut ours);
+    let ours_from = blocks_of(first, &mut ours);
     let mut theirs = [0u32; BLOCKS];
-    let start = blocks_of(second, &mut theirs);
-    let first_dearer = where_dearer(&ours[from..], &theirs[start..]);
-    let second_dearer = where_dearer(&theirs[start..], &ours[from..]);
+    let theirs_from = blocks_of(second, &mut theirs);
+    let our_blocks = &ours[ours_from..];
+    let their_blocks = &theirs[theirs_from..];
+    let first_dearer = where_dearer(our_blocks, their_blocks);
+    let second_dearer = where_dearer(their_blocks, our_blocks);
     match first_dearer {
         Dearer::Nowhere => match second_dearer {
             Dearer::Nowhere => Verdict::Equal,

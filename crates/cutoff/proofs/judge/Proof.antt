@@ -64,15 +64,15 @@ where-dearer-requires c κs =
     ((sweepable _ _ (tables .0 .sound) (blocks₁ b), sweepable _ _ (tables .1 .sound) (blocks₂ b)), same b)
 
 where-dearer-requires-2 : tie.Need-where-dearer-requires-2
-where-dearer-requires-2 c κs = let r = where-dearer-requires (c .before .before .before .before .before) κs in search needs
+where-dearer-requires-2 c κs = let r = where-dearer-requires (c .before) κs in search needs
 
 -- What the searches find is a verdict.
 judged : (c : tie.After-where-dearer2) (p q : Dearer) →
-    let d = c .before .before .before .before .before in
+    let d = c .before in
     let b = d .before .before .before .before .before in
     d .where-dearer .result ≡ p → c .where-dearer2 .result ≡ q → IsVerdict (table₁ b) (table₂ b) (verdictOf p q)
 judged c p q e f =
-    let d = c .before .before .before .before .before in
+    let d = c .before in
     let b = d .before .before .before .before .before in
     let (tables, (defaults, survivors)) = start b .pre in
     verdict-is _ _ (tables .0 .sound .counted) (tables .1 .sound .counted) survivors p q
@@ -106,14 +106,6 @@ judge-spec =
     (λ c. search needs)
     (λ c. search needs)
     where-dearer-requires
-    (λ c. search needs)
-    (λ c. search needs)
-    (λ c. search needs)
-    (λ c. search needs)
-    (λ c. search needs)
-    (λ c. search needs)
-    (λ c. search needs)
-    (λ c. search needs)
     where-dearer-requires-2
     (λ c. search needs)
     (λ c. search needs)
