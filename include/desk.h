@@ -25,22 +25,22 @@
 #define DESK_REFUSALS(X) \
     X(DESK_REFUSED_PLACE, 1, "place is not 1 or 2") \
     X(DESK_REFUSED_LENGTH, 2, "book under 4 bytes, or its stated length is not the length lent") \
-    X(DESK_REFUSED_RATERS, 3, "number of raters outside 1 to 16, or the book ends within the offsets") \
-    X(DESK_REFUSED_RATER, 4, "rater outside 1 to the number of raters") \
+    X(DESK_REFUSED_RATERS, 3, "R outside 1 to 16, or the book ends within the offsets (R: number of raters)") \
+    X(DESK_REFUSED_RATER, 4, "rater outside 1 to R (R: number of raters)") \
     X(DESK_REFUSED_LAYOUT, 5, "a table does not start where the one before ended, runs past the end, or bytes follow the last") \
     X(DESK_REFUSED_GRADES, 6, "grade count outside 1 to 40") \
     X(DESK_REFUSED_KIND, 7, "kind above 1, or the two bytes after it not zero") \
-    X(DESK_REFUSED_DEFAULTS, 8, "defaults above obligors in a grade") \
-    X(DESK_REFUSED_NO_OBLIGORS, 9, "no obligors in a grade") \
-    X(DESK_REFUSED_ANNOUNCED, 10, "announced rate above 1,000,000 ppm") \
-    X(DESK_REFUSED_OBLIGORS, 11, "more than 1,000,000 obligors in the table") \
-    X(DESK_REFUSED_PRICE, 12, "price above 1,000,000") \
+    X(DESK_REFUSED_DEFAULTS, 8, "defaults above obligors (kind 0)") \
+    X(DESK_REFUSED_NO_OBLIGORS, 9, "n is 0 (n: obligors of a grade)") \
+    X(DESK_REFUSED_ANNOUNCED, 10, "announced above 1,000,000") \
+    X(DESK_REFUSED_OBLIGORS, 11, "N above 1,000,000 (N: obligors of the table)") \
+    X(DESK_REFUSED_PRICE, 12, "a price above 1,000,000") \
     X(DESK_REFUSED_BUFFER, 13, "lent buffer too short") \
     X(DESK_REFUSED_LOADED, 21, "place already loaded") \
     X(DESK_REFUSED_EMPTY, 22, "place empty") \
     X(DESK_REFUSED_NO_DEFAULTS, 23, "no defaults") \
     X(DESK_REFUSED_NO_SURVIVORS, 24, "no survivors") \
-    X(DESK_REFUSED_UNLIKE, 25, "defaults or survivors differ between the places")
+    X(DESK_REFUSED_UNLIKE, 25, "D or S differ between the places (D: defaults, S: survivors)")
 #define DESK_CONSTANT(constant, number, meaning) constant = number,
 enum { DESK_REFUSALS(DESK_CONSTANT) };
 

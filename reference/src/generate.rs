@@ -5,7 +5,7 @@ use crate::desk::Desk;
 use crate::draft::Draft;
 use crate::random::Random;
 use crate::scenes::SCENES;
-use crate::script::Call;
+use crate::script::{decode, Call};
 use crate::table::Table;
 use crate::tail::broken_tail;
 
@@ -33,6 +33,17 @@ impl Script {
             calls: generator.calls,
             scenes: generator.scenes,
             tail,
+        }
+    }
+
+    /// The script that these bytes are.
+    pub fn decoded(bytes: &[u8]) -> Script {
+        let (calls, _) = decode(bytes);
+        let carried_out: usize = calls.iter().map(|call| call.encode().len()).sum();
+        Script {
+            scenes: vec![""; calls.len()],
+            calls,
+            tail: bytes[carried_out..].to_vec(),
         }
     }
 

@@ -17,6 +17,11 @@ fn scripts_decode_to_their_calls() {
         let (calls, breaks_off) = decode(&script.encode());
         assert!(calls == script.calls, "seed {seed}");
         assert_eq!(breaks_off, !script.tail.is_empty(), "seed {seed}");
+        let again = Script::decoded(&script.encode());
+        assert!(
+            again.calls == calls && again.tail == script.tail,
+            "seed {seed}"
+        );
     }
 }
 
@@ -146,6 +151,15 @@ fn floats_are_judged_by_their_meaning() {
 fn the_program_agrees_with_itself() {
     let program = env!("CARGO_BIN_EXE_reference");
     assert!(compare(program, 7, 2_000).is_ok());
+}
+
+/// The script of the gate: its stored answers are judged by their meaning.
+#[test]
+fn the_stored_answers_are_lawful() {
+    let replay = concat!(env!("CARGO_MANIFEST_DIR"), "/../crates/replay/");
+    let script = std::fs::read(format!("{replay}stdin")).expect("the script");
+    let answers = std::fs::read_to_string(format!("{replay}stdout")).expect("its answers");
+    assert_eq!(judge(&Script::decoded(&script), &answers), Ok(()));
 }
 
 #[test]

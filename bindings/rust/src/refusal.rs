@@ -29,22 +29,22 @@ macro_rules! refusals {
 refusals! {
     Place = 1, "place is not 1 or 2";
     Length = 2, "book under 4 bytes, or its stated length is not the length lent";
-    Raters = 3, "number of raters outside 1 to 16, or the book ends within the offsets";
-    Rater = 4, "rater outside 1 to the number of raters";
+    Raters = 3, "R outside 1 to 16, or the book ends within the offsets (R: number of raters)";
+    Rater = 4, "rater outside 1 to R (R: number of raters)";
     Layout = 5, "a table does not start where the one before ended, runs past the end, or bytes follow the last";
     Grades = 6, "grade count outside 1 to 40";
     Kind = 7, "kind above 1, or the two bytes after it not zero";
-    Defaults = 8, "defaults above obligors in a grade";
-    NoObligors = 9, "no obligors in a grade";
-    Announced = 10, "announced rate above 1,000,000 ppm";
-    Obligors = 11, "more than 1,000,000 obligors in the table";
-    Price = 12, "price above 1,000,000";
+    Defaults = 8, "defaults above obligors (kind 0)";
+    NoObligors = 9, "n is 0 (n: obligors of a grade)";
+    Announced = 10, "announced above 1,000,000";
+    Obligors = 11, "N above 1,000,000 (N: obligors of the table)";
+    Price = 12, "a price above 1,000,000";
     Buffer = 13, "lent buffer too short";
     Loaded = 21, "place already loaded";
     Empty = 22, "place empty";
     NoDefaults = 23, "no defaults";
     NoSurvivors = 24, "no survivors";
-    Unlike = 25, "defaults or survivors differ between the places";
+    Unlike = 25, "D or S differ between the places (D: defaults, S: survivors)";
 }
 
 impl Refusal {

@@ -1,4 +1,5 @@
 -- A change of a place of the desk is the change of an empty place with its mark: a change looks at nothing else.
+use Prim.Native.Nat.{ℕ}
 use mathlib.Core.Path.{_≡_, refl, sym, ap, _∙_}
 use mathlib.Core.Bool.{Bool}
 use mathlib.Core.List.{List}

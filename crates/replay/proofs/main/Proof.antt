@@ -1,16 +1,27 @@
--- `main` is safe: a fresh desk is sound.
-use native.Mathlib.Omega.{arith}
+-- `main` is safe: the desk stays sound. It ends: the number of turns that are left falls.
 use borrow.Author.Needs.{needs}
 use Rattle.desk.specs.Desk.{SoundDesk}
 use Rattle.desk.proofs.Soundness.{fresh-sound}
 use Rattle.replay.proofs.main.Statement.{statement}
 use Rattle.replay.proofs.main.Tie as tie
 
-sound : (c : tie.After-empty) → SoundDesk (c .empty .result)
-sound c = rw (c .empty .ensures) fresh-sound
+abbrev Inv-loop : tie.InvT-loop
+Inv-loop s₀ turns₀ s turns = SoundDesk (s .desk)
 
-run-all-requires : tie.Need-run-all-requires
-run-all-requires c κs = record { desk = sound (c .before .before); unused = omega arith; used = omega arith }
+abbrev μ-loop : tie.MeasureT-loop
+μ-loop s₀ turns₀ s turns = turns
 
 pub main-spec : {M : Type 1} → statement M
-main-spec = tie.close (tie.spec (λ c κs. search needs) run-all-requires (λ c κs. search needs) (λ c. search needs))
+main-spec =
+    tie.close
+    (tie.spec
+    Inv-loop
+    μ-loop
+    (λ c κs. search needs)
+    (λ c. rw (c .empty .ensures) fresh-sound)
+    (λ c. search needs)
+    (λ c κs. search needs)
+    (λ c. search needs)
+    (λ c. search needs)
+    (λ c. search needs)
+    (λ c. search needs))

@@ -15,14 +15,16 @@ returns : tie.Need-returns
 returns c = refuses 1 _ (missing _ _ _ (c .before .is-place .ensures) (c .if1 .taken)) (λ z. omega arith)
 
 requires-place : tie.Need-brier-requires
-requires-place c κs = words-place _ _ (c .before .before .before .before .pre) (c .before .words .ensures)
+requires-place c κs =
+    let a = c .before .before .before .before in
+    words-place _ (a .args .place) (a .pre) (c .before .words .ensures)
 
 returns-2 : tie.Need-returns-2
 returns-2 c =
     let l = c .before .before .before in
     let a = l .before .before in
     let here = there (a .args .place) _ (l .before .is-place .ensures) (l .if1 .left) in
-    answered _ _ (a .pre) (c .before .before .words .ensures) here brier (λ (p : Place). brierOf (tableOf p)) (c .brier .ensures)
+    answered _ (a .args .place) (a .pre) (c .before .before .words .ensures) here brier (λ (p : Place). brierOf (tableOf p)) (c .brier .ensures)
 
 pub brier-spec : {M : Type 1} → statement M
 brier-spec =

@@ -1,32 +1,20 @@
+-- `compare` meets its contract.
 use borrow.Author.Needs.{needs}
+use mathlib.Core.Path.{_≡_, _∙_, ap, subst}
+use mathlib.Core.List.{List}
+use Rattle.table.specs.declared.Place.{Place}
+use Rattle.table.specs.Words.{placeIn}
+use Rattle.table.proofs.Words.{is-place, long-place, place-back}
+use Rattle.calls.specs.Answers.{compareSays}
+use Rattle.calls.specs.Calls.{Compared}
 use Rattle.desk.proofs.Desk.compare.Statement.{statement}
 use Rattle.desk.proofs.Desk.compare.Tie as tie
-use Rattle.desk.proofs.Desk.compare.Reads as reads
-use Rattle.desk.proofs.Desk.compare.Lts as lts
-use Rattle.calls.proofs.compare.Reads as compare-reads
-use Rattle.table.proofs.Place.words.Reads as words-reads
 
--- src/lib.rt:198:21
-words-requires : tie.Need-words-requires
-words-requires c κs = search needs
-
--- src/lib.rt:199:22
-words-requires-2 : tie.Need-words-requires-2
-words-requires-2 c κs = search needs
-
--- src/lib.rt:200:24
-slice-aggregate-compare : tie.Need-slice-aggregate-compare
-slice-aggregate-compare c = search needs
-
--- src/lib.rt:200:32
-slice-aggregate-compare-2 : tie.Need-slice-aggregate-compare-2
-slice-aggregate-compare-2 c = search needs
-
--- src/lib.rt:200:9
 compare-requires : tie.Need-compare-requires
-compare-requires c κs = ?
+compare-requires c κs =
+    let a = c .before .before .before .before in
+    (rw (c .before .before .before .words .ensures) (is-place (a .pre .first)), rw (c .before .before .words2 .ensures) (is-place (a .pre .second)))
 
--- src/lib.rt:194:5
 returns : tie.Need-returns
 returns c = ?
 
@@ -34,9 +22,9 @@ pub compare-spec : {M : Type 1} → statement M
 compare-spec =
     tie.close
     (tie.spec
-    words-requires
-    words-requires-2
-    slice-aggregate-compare
-    slice-aggregate-compare-2
+    (λ c κs. search needs)
+    (λ c κs. search needs)
+    (λ c. search needs)
+    (λ c. search needs)
     compare-requires
     returns)

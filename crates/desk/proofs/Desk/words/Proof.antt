@@ -1,6 +1,7 @@
 -- `words` meets its contract.
 use mathlib.Core.Path.{_∙_, refl}
 use borrow.Author.Needs.{needs}
+use borrow.Author.Tests.{ne-eqb}
 use Rattle.desk.proofs.Desk.words.Statement.{statement}
 use Rattle.desk.proofs.Desk.words.Tie as tie
 
@@ -8,7 +9,7 @@ returns : tie.Need-returns
 returns c = c .words .ensures ∙ rw (c .before .if1 .taken) refl
 
 returns-2 : tie.Need-returns-2
-returns-2 c = c .words2 .ensures ∙ rw (c .before .if1 .left) refl
+returns-2 c = c .words2 .ensures ∙ rw (ne-eqb _ _ (c .before .if1 .left)) refl
 
 pub words-spec : {M : Type 1} → statement M
 words-spec = tie.close (tie.spec (λ c κs. search needs) (λ c κs. search needs) returns returns-2)

@@ -1,0 +1,182 @@
+// The line of each answer, without its line feed.
+ghost use Rattle.answers.specs.Answers.{Numbers, Plain};
+use book::Ack;
+use book::Written;
+use cutoff::Price;
+use cutoff::Verdict;
+use desk::BrierAnswer;
+use desk::CheapestAnswer;
+use desk::CompareAnswer;
+use desk::MeasuresAnswer;
+use desk::SpreadAnswer;
+use libc::STDOUT_FILENO;
+use measures::Fraction;
+use measures::Measures;
+use measures::SignedFraction;
+use print::text;
+use spread::Spread;
+
+fn wide_number(n: u64) {
+    text(b" ");
+    print::number(n);
+}
+
+fn number(n: u32) {
+    wide_number(n as u64);
+}
+
+fn signed(n: i64) {
+    text(b" ");
+    print::signed(n);
+}
+
+fn refused(call: &[u8], n: u32) {
+    text(call);
+    text(b" refused");
+    number(n);
+}
+
+// Of a call that answers nothing further.
+pub fn ack(call: &[u8], a: Ack) {
+    match a {
+        Ack::Done => {
+            text(call);
+            text(b" ok");
+        }
+        Ack::Refused(n) => refused(call, n),
+    }
+}
+
+pub fn pool(a: Ack, lent: &[u32]) {
+    ack(b"pool", a);
+    let mut i: usize = 0;
+    while i < lent.len() {
+        number(lent[i]);
+        i += 1;
+    }
+}
+
+pub fn cheapest(a: CheapestAnswer) {
+    match a {
+        CheapestAnswer::Cheapest(c) => {
+            text(b"cheapest ok");
+            number(c.cutoff);
+            wide_number(c.cost);
+        }
+        CheapestAnswer::Refused(n) => refused(b"cheapest", n),
+    }
+}
+
+fn price(p: Price) {
+    number(p.u);
+    number(p.v);
+}
+
+fn verdict(v: Verdict) {
+    match v {
+        Verdict::Equal => text(b"compare ok equal"),
+        Verdict::First(p) => {
+            text(b"compare ok first");
+            price(p);
+        }
+        Verdict::Second(p) => {
+            text(b"compare ok second");
+            price(p);
+        }
+        Verdict::Crossing(p, q) => {
+            text(b"compare ok crossing");
+            price(p);
+            price(q);
+        }
+    }
+}
+
+pub fn compare(a: CompareAnswer) {
+    match a {
+        CompareAnswer::Verdict(v) => verdict(v),
+        CompareAnswer::Refused(n) => refused(b"compare", n),
+    }
+}
+
+fn fraction(f: Fraction) {
+    wide_number(f.numerator);
+    wide_number(f.denominator);
+}
+
+fn signed_fraction(f: SignedFraction) {
+    signed(f.numerator);
+    wide_number(f.denominator);
+}
+
+fn four_measures(m: Measures) {
+    text(b"measures ok");
+    number(m.defaults);
+    number(m.survivors.0);
+    signed_fraction(m.gini);
+    fraction(m.roc);
+    fraction(m.cap);
+    signed_fraction(m.pietra);
+    number(m.cutoff);
+}
+
+pub fn measures(a: MeasuresAnswer) {
+    match a {
+        MeasuresAnswer::Measures(m) => four_measures(m),
+        MeasuresAnswer::Refused(n) => refused(b"measures", n),
+    }
+}
+
+pub fn brier(a: BrierAnswer) {
+    match a {
+        BrierAnswer::Brier(f) => {
+            text(b"brier ok");
+            fraction(f);
+        }
+        BrierAnswer::Refused(n) => refused(b"brier", n),
+    }
+}
+
+// The 64 bits of a float have a number where it is one.
+fn floats(s: Spread)
+    requires { ⌜ Numbers s ⌝ }
+{
+    text(b"spread ok");
+    wide_number(f64::to_bits(s.total));
+    wide_number(f64::to_bits(s.residual));
+}
+
+pub fn spread(a: SpreadAnswer)
+    requires { ⌜ Plain a ⌝ }
+{
+    match a {
+        SpreadAnswer::Spread(s) => floats(s),
+        SpreadAnswer::Refused(n) => refused(b"spread", n),
+    }
+}
+
+fn written(w: Written) {
+    match w {
+        Written::Length(n) => {
+            text(b"write ok");
+            number(n);
+        }
+        Written::Refused(n) => refused(b"write", n),
+    }
+}
+
+fn hex(b: u8) {
+    io::print_hex(STDOUT_FILENO, b as u64, 2);
+}
+
+// Two hexadecimal digits a byte, all behind one space; no space where there is no byte.
+pub fn write(w: Written, lent: &[u8]) {
+    written(w);
+    let mut i: usize = 0;
+    while i < lent.len() {
+        if i == 0 {
+            text(b" ");
+        }
+        hex(lent[i]);
+        i += 1;
+    }
+}

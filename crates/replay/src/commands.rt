@@ -1,0 +1,165 @@
+// Each command, run on the desk.
+ghost use Rattle.desk.specs.Desk.{SoundDesk};
+use crate::script::Call;
+use desk::Desk;
+use desk::Stored;
+use libc::STDIN_FILENO;
+use print::text;
+
+// The desk after a command, and whether the script goes on.
+pub struct Ran {
+    pub desk: Desk,
+    pub goes_on: bool,
+}
+
+// The longest book, in bytes.
+const BOOK: usize = 65_535;
+
+// The longest buffer that is lent to pool, in numbers, and what it holds before.
+const NUMBERS: usize = 512;
+
+const NUMBER: u32 = 0xaaaa_aaaa;
+
+// The longest buffer that is lent to write, in bytes, and what it holds before.
+const BYTES: usize = 8_192;
+
+const BYTE: u8 = 0xaa;
+
+// Load and clear hand back the desk beside their answer.
+fn stored(call: &[u8], s: Stored) -> Ran
+    requires { ⌜ SoundDesk (s .desk) ⌝ }
+    ensures { λ r. ⌜ SoundDesk (r .desk) ⌝ }
+{
+    let desk = s.desk;
+    let ack = s.ack;
+    answers::ack(call, ack);
+    Ran {
+        desk,
+        goes_on: true,
+    }
+}
+
+// The book is read into the lent buffer first; where the input ends within it, the script does too.
+fn load_from(desk: Desk, place: u32, rater: u32, book: &mut [u8]) -> Ran
+    requires { ⌜ SoundDesk desk ⌝ }
+    ensures { λ r. ⌜ SoundDesk (r .desk) ⌝ }
+{
+    if io::read_full(STDIN_FILENO, book) < book.len() {
+        return Ran {
+            desk,
+            goes_on: false,
+        };
+    }
+    stored(b"load", desk.load(place, book, rater))
+}
+
+fn load(desk: Desk, call: Call) -> Ran
+    requires { ⌜ SoundDesk desk ⌝ }
+    ensures { λ r. ⌜ SoundDesk (r .desk) ⌝ }
+{
+    let length = call.third as usize;
+    if BOOK < length {
+        return Ran {
+            desk,
+            goes_on: false,
+        };
+    }
+    let mut book = io::large_buffer();
+    load_from(desk, call.first, call.second, &mut book[..length])
+}
+
+fn clear(desk: Desk, place: u32) -> Ran
+    requires { ⌜ SoundDesk desk ⌝ }
+    ensures { λ r. ⌜ SoundDesk (r .desk) ⌝ }
+{
+    stored(b"clear", desk.clear(place))
+}
+
+fn pool_into(desk: Desk, place: u32, lent: &mut [u32])
+    requires { ⌜ SoundDesk desk ⌝ }
+{
+    let ack = desk.pool(place, lent);
+    answers::pool(ack, lent);
+}
+
+fn pool(desk: Desk, place: u32, length: usize) -> bool
+    requires { ⌜ SoundDesk desk ⌝ }
+{
+    if NUMBERS < length {
+        return false;
+    }
+    let mut numbers = [NUMBER; NUMBERS];
+    pool_into(desk, place, &mut numbers[..length]);
+    true
+}
+
+fn write_into(desk: Desk, lent: &mut [u8])
+    requires { ⌜ SoundDesk desk ⌝ }
+{
+    let written = desk.write(lent);
+    answers::write(written, lent);
+}
+
+fn write(desk: Desk, length: usize) -> bool
+    requires { ⌜ SoundDesk desk ⌝ }
+{
+    if BYTES < length {
+        return false;
+    }
+    let mut bytes = [BYTE; BYTES];
+    write_into(desk, &mut bytes[..length]);
+    true
+}
+
+fn spread(desk: Desk, place: u32)
+    requires { ⌜ SoundDesk desk ⌝ }
+{
+    answers::spread(desk.spread(place));
+}
+
+// A call that leaves the desk as it was; false where there is no such operation, or it lends more than it may.
+fn question(desk: Desk, call: Call) -> bool
+    requires { ⌜ SoundDesk desk ⌝ }
+{
+    let operation = call.operation;
+    let place = call.first;
+    match operation {
+        3 => return pool(desk, place, call.second as usize),
+        4 => answers::cheapest(desk.cheapest(place, call.second, call.third)),
+        5 => answers::compare(desk.compare()),
+        6 => answers::measures(desk.measures(place)),
+        7 => answers::brier(desk.brier(place)),
+        8 => spread(desk, place),
+        9 => return write(desk, place as usize),
+        _ => return false,
+    }
+    true
+}
+
+fn answered(desk: Desk, call: Call) -> Ran
+    requires { ⌜ SoundDesk desk ⌝ }
+    ensures { λ r. ⌜ SoundDesk (r .desk) ⌝ }
+{
+    let operation = call.operation;
+    match operation {
+        1 => load(desk, call),
+        2 => clear(desk, call.first),
+        _ => Ran {
+            desk,
+            goes_on: question(desk, call),
+        },
+    }
+}
+
+pub fn run(desk: Desk, call: Call) -> Ran
+    requires { ⌜ SoundDesk desk ⌝ }
+    ensures { λ r. ⌜ SoundDesk (r .desk) ⌝ }
+{
+    let ran = answered(desk, call);
+    if ran.goes_on {
+        text(b"\n");
+    } else {
+        text(b"end\n");
+    }
+    ran
+}
