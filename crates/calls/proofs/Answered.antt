@@ -15,3 +15,8 @@ module _ {A : Type 0} where
   pub keeps : (n : ℕ) (old new : A) → (n ≡ 0 → ⊥) → old ≡ leaves n old new
   keeps zero old new k = absurd (k refl)
   keeps (suc n) old new k = refl
+
+  -- so is what it left, where the fault is known by another name
+  pub left-alone : (n : ℕ) {m : ℕ} {left old : A} (new : A) → n ≡ m → (n ≡ 0 → ⊥) → left ≡ old → left ≡ leaves m old new
+  left-alone zero new e k h = absurd (k refl)
+  left-alone (suc n) new e k h = rw (← e) h

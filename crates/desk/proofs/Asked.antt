@@ -1,19 +1,24 @@
 -- A call on a place of the desk is the call on its words: the place that they stand for is that place, and 1 is no fault.
-use Prim.Native.Nat.{ℕ}
-use mathlib.Core.Path.{_≡_, sym, ap, _∙_, subst}
+use Prim.Native.Nat.{ℕ, zero, suc}
+use mathlib.Core.Path.{_≡_, refl, sym, ap, _∙_, subst}
 use mathlib.Core.List.{List}
 use lib.Dec.{eqb}
+use lib.ListN.{length}
+use Rattle.table.specs.Table.{Table}
 use Rattle.table.specs.declared.Place.{Place}
 use Rattle.table.specs.Place.{tableOf, SoundPlace}
 use Rattle.table.specs.Words.{wordsOf, placeIn, IsPlace}
 use Rattle.table.proofs.Test.{by-test}
 use Rattle.table.proofs.Words.{long-place, place-back, is-place}
+use Rattle.book.specs.Encode.{bookSize}
+use Rattle.book.specs.Writing.{lengthOr}
 use Rattle.book.proofs.Checks.{first-none}
-use Rattle.calls.specs.Answers.{Answer, answer, Limited}
-use Rattle.calls.specs.Calls.{Question, questionFault}
+use Rattle.calls.specs.Answers.{Answer, answer, leaves, Limited}
+use Rattle.calls.specs.Calls.{Question, questionFault, Filling, filledWith, fillFault}
 use Rattle.desk.specs.declared.Desk.{Desk}
-use Rattle.desk.specs.Desk.{placeAt, SoundDesk}
-use Rattle.desk.specs.Calls.{placeFault, ask, numberOf}
+use Rattle.desk.specs.Desk.{placeAt, tableAt, SoundDesk}
+use Rattle.desk.specs.Answers.{writtenSays}
+use Rattle.desk.specs.Calls.{placeFault, ask, fill, numberOf, lentAfter}
 
 pub place-sound : (d : Desk) (i : ℕ) → SoundDesk d → SoundPlace (placeAt d i)
 place-sound d i s = by-test SoundPlace (eqb i 1) {l = d .first} {r = d .second} (λ _. s .first) (λ _. s .second)
@@ -43,3 +48,20 @@ module _ (d : Desk) (i : ℕ) (s : SoundDesk d) {w : List ℕ} (words : w ≡ wo
     limited P r l =
         subst (λ (n : ℕ). Limited n (P (placeAt d i)) r) number-is
         (subst (λ (p : Place). Limited (questionFault p q) (P p) r) place-is l)
+
+  -- a lent buffer of which n is the fault, and new what was made of it
+  module _ (here : placeFault i ≡ 0) (f : Filling) (out : List ℕ) {n : ℕ} (e : n ≡ fillFault (placeIn w) f (length out)) where
+    pub fill-number : n ≡ numberOf d (fill i f out)
+    fill-number = e ∙ ap (λ (p : Place). fillFault p f (length out)) place-is ∙ sym (first-none (placeFault i) _ here)
+
+    pub fill-buffer : {new : List ℕ} → new ≡ leaves n out (filledWith (tableOf (placeIn w)) f out) → new ≡ lentAfter d (fill i f out)
+    fill-buffer g =
+        g
+        ∙ ap (λ (p : Place). leaves n out (filledWith (tableOf p) f out)) place-is
+        ∙ ap (λ (m : ℕ). leaves m out (filledWith (tableAt d i) f out)) fill-number
+
+-- A written book, whose fault is n.
+pub says-written : (n : ℕ) (ts : List Table) → writtenSays (lengthOr n ts) ≡ answer n (bookSize ts)
+unfolding lengthOr
+says-written zero ts = refl
+says-written (suc n) ts = refl

@@ -26,7 +26,7 @@ with-sound i s t = by-test SoundDesk (eqb i 1) (λ _. record { first = t; second
 pub read-sound : (b : List ℕ) (j : ℕ) → readFault b j ≡ 0 → Sound (tableOfRater b j)
 read-sound b j e = let a = ReadingIsSound b j e in rw (← a .table) (a .sound)
 
-changed-sound : (p : Place) (c : Change) → changeFault p c ≡ 0 → SoundPlace (changedTo c)
+pub changed-sound : (p : Place) (c : Change) → changeFault p c ≡ 0 → SoundPlace (changedTo c)
 unfolding changeFault
 changed-sound p (load b j) e = holds (tableOfRater b j) (read-sound b j (held-first _ _ e .1))
 changed-sound p clear e = empty

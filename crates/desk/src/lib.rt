@@ -54,6 +54,17 @@ pub fn is_place(place: u32) -> bool
     }
 }
 
+// The words of a place without a table, marked as loaded or not.
+fn words_marked(loaded: bool) -> [u32; PLACE]
+    ensures { λ r. ⌜ r ≡ wordsOf (marked loaded) ⌝ }
+{
+    let mut words = [0u32; PLACE];
+    if loaded {
+        words[LOADED] = 1;
+    }
+    words
+}
+
 impl Ack {
     // Of a call that returned 0, or its refusal number.
     fn of(number: u32) -> Ack
@@ -93,16 +104,11 @@ impl Desk {
     fn mark(self, place: u32) -> [u32; PLACE]
         ensures { λ r. ⌜ r ≡ wordsOf (marked (placeAt self place .loaded)) ⌝ }
     {
-        let loaded = if place == 1 {
-            self.first.loaded
+        if place == 1 {
+            words_marked(self.first.loaded)
         } else {
-            self.second.loaded
-        };
-        let mut words = [0u32; PLACE];
-        if loaded {
-            words[LOADED] = 1;
+            words_marked(self.second.loaded)
         }
-        words
     }
 
     // The desk with another place 1 or 2.

@@ -1,64 +1,44 @@
+-- `clear` meets its contract.
+use Prim.Native.Nat.{ℕ}
+use mathlib.Core.Path.{_∙_, ap}
+use native.Mathlib.Omega.{arith}
 use borrow.Author.Needs.{needs}
+use Rattle.calls.specs.Answers.{answer}
+use Rattle.calls.specs.Calls.{clear}
+use Rattle.calls.proofs.Answered.{left-alone}
+use Rattle.desk.specs.Desk.{placeAt}
+use Rattle.desk.proofs.Number.{there, missing}
+use Rattle.desk.proofs.Changed.{length-marked, change-number, change-desk}
 use Rattle.desk.proofs.Desk.clear.Statement.{statement}
 use Rattle.desk.proofs.Desk.clear.Tie as tie
-use Rattle.desk.proofs.Desk.clear.Reads as reads
-use Rattle.desk.proofs.Desk.clear.Lts as lts
-use Rattle.calls.proofs.clear.Reads as clear-reads
-use Rattle.desk.proofs.Desk.mark.Reads as mark-reads
-use Rattle.desk.proofs.Desk.stored.Reads as stored-reads
-use Rattle.desk.proofs.is_place.Reads as is-place-reads
 
--- src/lib.rt:159:25
-mark-requires : tie.Need-mark-requires
-mark-requires c κs = search needs
-
--- src/lib.rt:160:13
-is-place-requires : tie.Need-is-place-requires
-is-place-requires c κs = search needs
-
--- src/lib.rt:161:49
-slice-aggregate-stored : tie.Need-slice-aggregate-stored
-slice-aggregate-stored c = search needs
-
--- src/lib.rt:161:13
-stored-requires : tie.Need-stored-requires
-stored-requires c κs = search needs
-
--- src/lib.rt:161:13
 returns : tie.Need-returns
-returns c = ?
+returns c =
+    let e = missing _ _ _ (c .before .before .before .is-place .ensures) (c .before .before .if1 .taken) in
+    (left-alone 1 _ e (λ z. omega arith) (c .stored .ensures .0), c .stored .ensures .1 ∙ ap (λ (m : ℕ). answer m tt) e)
 
--- src/lib.rt:163:36
-slice-aggregate-clear : tie.Need-slice-aggregate-clear
-slice-aggregate-clear c = search needs
-
--- src/lib.rt:163:13
-clear-requires : tie.Need-clear-requires
-clear-requires c κs = search needs
-
--- src/lib.rt:164:37
-slice-aggregate-stored-2 : tie.Need-slice-aggregate-stored-2
-slice-aggregate-stored-2 c = search needs
-
--- src/lib.rt:164:9
-stored-requires-2 : tie.Need-stored-requires-2
-stored-requires-2 c κs = search needs
-
--- src/lib.rt:155:5
 returns-2 : tie.Need-returns-2
-returns-2 c = ?
+returns-2 c =
+    let f = c .before .before .before in
+    let l = f .before .before .before in
+    let a = l .before .before in
+    let words = l .before .mark .ensures in
+    let here = there (a .args .place) _ (l .is-place .ensures) (f .before .before .if1 .left) in (
+      change-desk _ (a .args .place) clear here words (f .clear .ensures .0) (f .clear .ensures .1) (c .stored2 .ensures .0),
+      rw (← change-number _ (a .args .place) clear here words (f .clear .ensures .0)) (c .stored2 .ensures .1),
+    )
 
 pub clear-spec : {M : Type 1} → statement M
 clear-spec =
     tie.close
     (tie.spec
-    mark-requires
-    is-place-requires
-    slice-aggregate-stored
-    stored-requires
+    (λ c κs. search needs)
+    (λ c κs. search needs)
+    (λ c. search needs)
+    (λ c κs. length-marked (placeAt (c .before .before .before .before .args .self) (c .before .before .before .before .args .place) .loaded) (c .before .before .before .mark .ensures))
     returns
-    slice-aggregate-clear
-    clear-requires
-    slice-aggregate-stored-2
-    stored-requires-2
+    (λ c. search needs)
+    (λ c κs. length-marked (placeAt (c .before .before .before .before .args .self) (c .before .before .before .before .args .place) .loaded) (c .before .before .before .mark .ensures))
+    (λ c. search needs)
+    (λ c κs. search needs)
     returns-2)

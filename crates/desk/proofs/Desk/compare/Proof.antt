@@ -1,12 +1,14 @@
 -- `compare` meets its contract.
-use borrow.Author.Needs.{needs}
 use mathlib.Core.Path.{_≡_, _∙_, ap, subst}
 use mathlib.Core.List.{List}
+use Prim.Native.Nat.{ℕ}
+use borrow.Author.Needs.{needs}
 use Rattle.table.specs.declared.Place.{Place}
 use Rattle.table.specs.Words.{placeIn}
-use Rattle.table.proofs.Words.{is-place, long-place, place-back}
+use Rattle.table.proofs.Words.{is-place}
 use Rattle.calls.specs.Answers.{compareSays}
 use Rattle.calls.specs.Calls.{Compared}
+use Rattle.desk.proofs.Asked.{place-is}
 use Rattle.desk.proofs.Desk.compare.Statement.{statement}
 use Rattle.desk.proofs.Desk.compare.Tie as tie
 
@@ -16,7 +18,13 @@ compare-requires c κs =
     (rw (c .before .before .before .words .ensures) (is-place (a .pre .first)), rw (c .before .before .words2 .ensures) (is-place (a .pre .second)))
 
 returns : tie.Need-returns
-returns c = ?
+returns c =
+    let a = c .before .before .before .before .before in
+    let r = compareSays (c .compare .result) in
+    let first = place-is (a .args .self) 1 (a .pre) (c .before .before .before .before .words .ensures) in
+    let second = place-is (a .args .self) 2 (a .pre) (c .before .before .before .words2 .ensures) in
+    subst (λ (q : Place). Compared (a .args .self .first) q r) second
+    (subst (λ (p : Place). Compared p (placeIn (c .before .before .before .words2 .result)) r) first (c .compare .ensures))
 
 pub compare-spec : {M : Type 1} → statement M
 compare-spec =

@@ -1,64 +1,45 @@
+-- `load` meets its contract.
+use Prim.Native.Nat.{ℕ}
+use mathlib.Core.Path.{_∙_, ap}
+use native.Mathlib.Omega.{arith}
 use borrow.Author.Needs.{needs}
+use denote.Ref.{now}
+use Rattle.calls.specs.Answers.{answer}
+use Rattle.calls.specs.Calls.{load}
+use Rattle.calls.proofs.Answered.{left-alone}
+use Rattle.desk.specs.Desk.{placeAt}
+use Rattle.desk.proofs.Number.{there, missing}
+use Rattle.desk.proofs.Changed.{length-marked, fillable-marked, change-number, change-desk}
 use Rattle.desk.proofs.Desk.load.Statement.{statement}
 use Rattle.desk.proofs.Desk.load.Tie as tie
-use Rattle.desk.proofs.Desk.load.Reads as reads
-use Rattle.desk.proofs.Desk.load.Lts as lts
-use Rattle.calls.proofs.load.Reads as load-reads
-use Rattle.desk.proofs.Desk.mark.Reads as mark-reads
-use Rattle.desk.proofs.Desk.stored.Reads as stored-reads
-use Rattle.desk.proofs.is_place.Reads as is-place-reads
 
--- src/lib.rt:146:25
-mark-requires : tie.Need-mark-requires
-mark-requires c κs = search needs
-
--- src/lib.rt:147:13
-is-place-requires : tie.Need-is-place-requires
-is-place-requires c κs = search needs
-
--- src/lib.rt:148:49
-slice-aggregate-stored : tie.Need-slice-aggregate-stored
-slice-aggregate-stored c = search needs
-
--- src/lib.rt:148:13
-stored-requires : tie.Need-stored-requires
-stored-requires c κs = search needs
-
--- src/lib.rt:148:13
 returns : tie.Need-returns
-returns c = ?
+returns c =
+    let e = missing _ _ _ (c .before .before .before .is-place .ensures) (c .before .before .if1 .taken) in
+    (left-alone 1 _ e (λ z. omega arith) (c .stored .ensures .0), c .stored .ensures .1 ∙ ap (λ (m : ℕ). answer m tt) e)
 
--- src/lib.rt:150:35
-slice-aggregate-load : tie.Need-slice-aggregate-load
-slice-aggregate-load c = search needs
-
--- src/lib.rt:150:13
-load-requires : tie.Need-load-requires
-load-requires c κs = ?
-
--- src/lib.rt:151:37
-slice-aggregate-stored-2 : tie.Need-slice-aggregate-stored-2
-slice-aggregate-stored-2 c = search needs
-
--- src/lib.rt:151:9
-stored-requires-2 : tie.Need-stored-requires-2
-stored-requires-2 c κs = search needs
-
--- src/lib.rt:142:5
 returns-2 : tie.Need-returns-2
-returns-2 c = ?
+returns-2 c =
+    let f = c .before .before .before in
+    let l = f .before .before .before in
+    let a = l .before .before .before in
+    let words = l .before .mark .ensures in
+    let here = there (a .args .place) _ (l .is-place .ensures) (f .before .before .if1 .left) in (
+      change-desk _ (a .args .place) (load (now (a .args .book)) (a .args .rater)) here words (f .load .ensures .0) (f .load .ensures .1) (c .stored2 .ensures .0),
+      rw (← change-number _ (a .args .place) (load (now (a .args .book)) (a .args .rater)) here words (f .load .ensures .0)) (c .stored2 .ensures .1),
+    )
 
 pub load-spec : {M : Type 1} → statement M
 load-spec =
     tie.close
     (tie.spec
-    mark-requires
-    is-place-requires
-    slice-aggregate-stored
-    stored-requires
+    (λ c κs. search needs)
+    (λ c κs. search needs)
+    (λ c. search needs)
+    (λ c κs. length-marked (placeAt (c .before .before .before .before .before .args .self) (c .before .before .before .before .before .args .place) .loaded) (c .before .before .before .mark .ensures))
     returns
-    slice-aggregate-load
-    load-requires
-    slice-aggregate-stored-2
-    stored-requires-2
+    (λ c. search needs)
+    (λ c κs. fillable-marked (placeAt (c .before .before .before .before .before .args .self) (c .before .before .before .before .before .args .place) .loaded) (c .before .before .before .mark .ensures))
+    (λ c. search needs)
+    (λ c κs. search needs)
     returns-2)

@@ -1,14 +1,15 @@
 -- `mark` meets its contract.
-use mathlib.Core.Path.{refl}
+use mathlib.Core.Path.{_∙_, refl}
 use borrow.Author.Needs.{needs}
+use borrow.Author.Tests.{ne-eqb}
 use Rattle.desk.proofs.Desk.mark.Statement.{statement}
 use Rattle.desk.proofs.Desk.mark.Tie as tie
 
 returns : tie.Need-returns
-returns c = ?
+returns c = c .words-marked .ensures ∙ rw (c .before .if1 .taken) refl
 
 returns-2 : tie.Need-returns-2
-returns-2 c = ?
+returns-2 c = c .words-marked2 .ensures ∙ rw (ne-eqb _ _ (c .before .if1 .left)) refl
 
 pub mark-spec : {M : Type 1} → statement M
-mark-spec = tie.close (tie.spec (λ c. search needs) returns returns-2)
+mark-spec = tie.close (tie.spec (λ c κs. search needs) (λ c κs. search needs) returns returns-2)

@@ -1,54 +1,49 @@
+-- `pool` meets its contract.
+use Prim.Native.Nat.{ℕ}
+use mathlib.Core.Path.{_∙_, ap, refl}
+use native.Mathlib.Omega.{arith}
 use borrow.Author.Needs.{needs}
+use denote.Ref.{now}
+use Rattle.calls.specs.Answers.{answer}
+use Rattle.calls.specs.Calls.{pool}
+use Rattle.calls.proofs.Answered.{refuses, left-alone}
+use Rattle.desk.proofs.Number.{there, missing}
+use Rattle.desk.proofs.Asked.{words-place, fill-number, fill-buffer}
 use Rattle.desk.proofs.Desk.pool.Statement.{statement}
 use Rattle.desk.proofs.Desk.pool.Tie as tie
-use Rattle.desk.proofs.Desk.pool.Reads as reads
-use Rattle.desk.proofs.Desk.pool.Lts as lts
-use Rattle.calls.proofs.pool.Reads as pool-reads
-use Rattle.desk.proofs.Ack.of.Reads as of-reads
-use Rattle.desk.proofs.Desk.words.Reads as words-reads
-use Rattle.desk.proofs.is_place.Reads as is-place-reads
 
--- src/lib.rt:173:13
-is-place-requires : tie.Need-is-place-requires
-is-place-requires c κs = search needs
-
--- src/lib.rt:174:13
 returns : tie.Need-returns
-returns c = ?
+returns c =
+    let e = missing _ _ _ (c .before .is-place .ensures) (c .if1 .taken) in
+    (left-alone 1 _ e (λ z. omega arith) refl, refuses 1 _ e (λ z. omega arith))
 
--- src/lib.rt:176:21
-words-requires : tie.Need-words-requires
-words-requires c κs = search needs
-
--- src/lib.rt:177:29
-slice-aggregate-pool : tie.Need-slice-aggregate-pool
-slice-aggregate-pool c = search needs
-
--- src/lib.rt:177:17
 pool-requires : tie.Need-pool-requires
-pool-requires c κs = ?
+pool-requires c κs =
+    let w = c .before .before in
+    let a = w .before .before .before .before in
+    words-place _ (a .args .place) (a .pre) (w .words .ensures)
 
--- src/lib.rt:177:9
-of-requires : tie.Need-of-requires
-of-requires c κs = search needs
-
--- src/lib.rt:168:5
-same-length : tie.Need-same-length
-same-length c = search needs
-
--- src/lib.rt:168:5
 returns-2 : tie.Need-returns-2
-returns-2 c = ?
+returns-2 c =
+    let p = c .before .before .before in
+    let w = p .before .before .before in
+    let l = w .before in
+    let a = l .before .before .before in
+    let here = there (a .args .place) _ (l .before .is-place .ensures) (l .if1 .left) in
+    let n = fill-number _ (a .args .place) (a .pre) (w .words .ensures) here pool (now (a .args .out)) (p .pool .ensures .0) in (
+      fill-buffer _ (a .args .place) (a .pre) (w .words .ensures) here pool (now (a .args .out)) (p .pool .ensures .0) (p .pool .ensures .1),
+      c .of .ensures ∙ ap (λ (m : ℕ). answer m tt) n,
+    )
 
 pub pool-spec : {M : Type 1} → statement M
 pool-spec =
     tie.close
     (tie.spec
-    is-place-requires
+    (λ c κs. search needs)
     returns
-    words-requires
-    slice-aggregate-pool
+    (λ c κs. search needs)
+    (λ c. search needs)
     pool-requires
-    of-requires
-    same-length
+    (λ c κs. search needs)
+    (λ c. search needs)
     returns-2)
