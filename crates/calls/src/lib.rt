@@ -11,7 +11,8 @@ ghost use Rattle.measures.specs.Measures.{measuresOf};
 ghost use Rattle.measures.specs.Brier.{brierOf};
 ghost use Rattle.spread.specs.Spread.{IsSpread};
 ghost use Rattle.calls.specs.Answers.{answer, leaves, Limited, cheapestSays, measuresSays, brierSays, spreadSays, totalsSays};
-ghost use Rattle.calls.specs.Calls.{emptyFault, questionFault, cheapest, measures, brier, spread, fillFault, pool, changeFault, load, clear, Fillable};
+ghost use Rattle.calls.specs.Calls.{emptyFault, questionFault, cheapest, measures, brier, spread, fillFault, pool, changeFault, load, clear};
+ghost use Rattle.calls.specs.Private.{Fillable};
 
 mod pair;
 
