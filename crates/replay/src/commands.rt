@@ -1,5 +1,6 @@
 // Each command, run on the desk.
 ghost use Rattle.desk.specs.Desk.{SoundDesk};
+use crate::script;
 use crate::script::Call;
 use desk::Desk;
 use desk::Stored;
@@ -124,13 +125,13 @@ fn question(desk: Desk, call: Call) -> bool
     let operation = call.operation;
     let place = call.first;
     match operation {
-        3 => return pool(desk, place, call.second as usize),
-        4 => answers::cheapest(desk.cheapest(place, call.second, call.third)),
-        5 => answers::compare(desk.compare()),
-        6 => answers::measures(desk.measures(place)),
-        7 => answers::brier(desk.brier(place)),
-        8 => spread(desk, place),
-        9 => return write(desk, place as usize),
+        script::POOL => return pool(desk, place, call.second as usize),
+        script::CHEAPEST => answers::cheapest(desk.cheapest(place, call.second, call.third)),
+        script::COMPARE => answers::compare(desk.compare()),
+        script::MEASURES => answers::measures(desk.measures(place)),
+        script::BRIER => answers::brier(desk.brier(place)),
+        script::SPREAD => spread(desk, place),
+        script::WRITE => return write(desk, place as usize),
         _ => return false,
     }
     true
@@ -142,8 +143,8 @@ fn answered(desk: Desk, call: Call) -> Ran
 {
     let operation = call.operation;
     match operation {
-        1 => load(desk, call),
-        2 => clear(desk, call.first),
+        script::LOAD => load(desk, call),
+        script::CLEAR => clear(desk, call.first),
         _ => Ran {
             desk,
             goes_on: question(desk, call),
