@@ -2,16 +2,10 @@
 -- again, and a book whose tables are loaded is written again.
 use Prim.Native.Nat.{ℕ, _-_, _≤_}
 use mathlib.Core.Path.{_≡_, refl, sym, ap, _∙_}
-use mathlib.Core.Bool.{Bool, true, false, cond}
 use mathlib.Core.List.{List, [], _++_}
-use native.Mathlib.Omega.{arith}
-use lib.Dec.{eqb}
 use lib.ListN.{length, take, drop, getD}
-use Rattle.table.specs.Table.{Every, Sound}
-use Rattle.table.specs.Place.{SoundPlace}
-use Rattle.table.proofs.Test.{by-test}
+use Rattle.table.specs.Table.{Every}
 use Rattle.table.proofs.Words.{sound-loaded}
-use Rattle.table.specs.declared.Place.{Place}
 use Rattle.book.specs.Bytes.{Byte}
 use Rattle.book.specs.Layout.{raters, startOf, kindAt, layoutFault}
 use Rattle.book.specs.Rows.{tablesIn}
@@ -25,23 +19,12 @@ use Rattle.pooling.specs.Regression.{IsRegression}
 use Rattle.pooling.proofs.LeastSquares.{pooled-regression}
 use Rattle.pooling.proofs.Written.{rates-written}
 use Rattle.measures.specs.Claims.{Mixed}
-use Rattle.calls.specs.Calls.{emptyFault, measures, questionFault, pool, fillFault}
+use Rattle.calls.specs.Calls.{measures, questionFault, pool, fillFault}
 use Rattle.desk.specs.declared.Desk.{Desk}
-use Rattle.desk.specs.Desk.{placeAt, tableAt, SoundDesk}
+use Rattle.desk.specs.Desk.{tableAt, SoundDesk}
 use Rattle.desk.specs.Calls.{ask, fill, write, numberOf, lentAfter, loadedTables}
+use Rattle.desk.proofs.Asked.{table-sound}
 use Rattle.demands.specs.History.{nothing, table, filled}
-
--- The table that a call works on is sound.
-
-is-loaded : (b : Bool) → _≡_ {A = ℕ} (cond b 0 22) 0 → b ≡ true
-is-loaded true e = refl
-is-loaded false e = absurd (omega arith)
-
-table-sound : (d : Desk) → SoundDesk d → (i : ℕ) → emptyFault (placeAt d i) ≡ 0 → Sound (tableAt d i)
-table-sound d s i e =
-    sound-loaded
-    (by-test SoundPlace (eqb i 1) {l = d .first} {r = d .second} (λ _. s .first) (λ _. s .second))
-    (is-loaded (placeAt d i .loaded) e)
 
 -- Pool and measures.
 
@@ -50,14 +33,14 @@ pub regression-written : (d : Desk) → SoundDesk d → (i : ℕ) (out : List �
 unfolding fillFault
 regression-written d s i out e =
     let f = held-first _ _ (held-first _ _ e .1) in
-    rw (e, rates-written (tableAt d i) out) (pooled-regression (tableAt d i) (table-sound d s i (f .0) .occupied))
+    rw (e, rates-written (tableAt d i) out) (pooled-regression (tableAt d i) (table-sound d i s (f .0) .occupied))
 
 pub measured-mixed : (d : Desk) → SoundDesk d → (i : ℕ) → numberOf d (ask i measures) ≡ 0 → Mixed (tableAt d i)
 unfolding questionFault
 measured-mixed d s i e =
     let f = held-first _ _ (held-first _ _ e .1) in
     let h = held _ (f .1) in
-    record { counted = table-sound d s i (f .0) .counted; defaulted = h .0; survived = h .1 .0 }
+    record { counted = table-sound d i s (f .0) .counted; defaulted = h .0; survived = h .1 .0 }
 
 -- Write.
 

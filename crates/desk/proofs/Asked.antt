@@ -1,20 +1,22 @@
 -- A call on a place of the desk is the call on its words: the place that they stand for is that place, and 1 is no fault.
 use Prim.Native.Nat.{ℕ, zero, suc}
 use mathlib.Core.Path.{_≡_, refl, sym, ap, _∙_, subst}
+use mathlib.Core.Bool.{Bool, true, false, cond}
 use mathlib.Core.List.{List}
+use native.Mathlib.Omega.{arith}
 use lib.Dec.{eqb}
 use lib.ListN.{length}
-use Rattle.table.specs.Table.{Table}
+use Rattle.table.specs.Table.{Table, Sound}
 use Rattle.table.specs.declared.Place.{Place}
 use Rattle.table.specs.Place.{tableOf, SoundPlace}
 use Rattle.table.specs.Words.{wordsOf, placeIn, IsPlace}
 use Rattle.table.proofs.Test.{by-test}
-use Rattle.table.proofs.Words.{long-place, place-back, is-place}
+use Rattle.table.proofs.Words.{long-place, place-back, is-place, sound-loaded}
 use Rattle.book.specs.Encode.{bookSize}
 use Rattle.book.specs.Writing.{lengthOr}
 use Rattle.book.proofs.Checks.{first-none}
 use Rattle.calls.specs.Answers.{Answer, answer, leaves, Limited}
-use Rattle.calls.specs.Calls.{Question, questionFault, Filling, filledWith, fillFault}
+use Rattle.calls.specs.Calls.{emptyFault, Question, questionFault, Filling, filledWith, fillFault}
 use Rattle.desk.specs.declared.Desk.{Desk}
 use Rattle.desk.specs.Desk.{placeAt, tableAt, SoundDesk}
 use Rattle.desk.specs.Answers.{writtenSays}
@@ -22,6 +24,14 @@ use Rattle.desk.specs.Calls.{placeFault, ask, fill, numberOf, lentAfter}
 
 pub place-sound : (d : Desk) (i : ℕ) → SoundDesk d → SoundPlace (placeAt d i)
 place-sound d i s = by-test SoundPlace (eqb i 1) {l = d .first} {r = d .second} (λ _. s .first) (λ _. s .second)
+
+is-loaded : (b : Bool) → _≡_ {A = ℕ} (cond b 0 22) 0 → b ≡ true
+is-loaded true e = refl
+is-loaded false e = absurd (omega arith)
+
+-- The table that a call works on is sound.
+pub table-sound : (d : Desk) (i : ℕ) → SoundDesk d → emptyFault (placeAt d i) ≡ 0 → Sound (tableAt d i)
+table-sound d i s e = sound-loaded (place-sound d i s) (is-loaded (placeAt d i .loaded) e)
 
 module _ (d : Desk) (i : ℕ) (s : SoundDesk d) {w : List ℕ} (words : w ≡ wordsOf (placeAt d i)) where
   pub words-place : IsPlace w

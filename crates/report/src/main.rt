@@ -1,20 +1,16 @@
 // The printing program: the pooled grades and the Gini of rater 1 of the book on standard input.
 ghost use Prim.Native.Nat.{_≤_};
 ghost use Rattle.desk.specs.Desk.{SoundDesk};
-use book::Ack;
+use calls::MeasuresAnswer;
+use desk::Ack;
 use desk::Desk;
-use desk::MeasuresAnswer;
 use libc::STDIN_FILENO;
+use print::INPUT;
 use print::number;
 use print::signed;
 use print::text;
+use refusals::BOOK_LENGTH;
 use table::GRADES;
-
-// The longest input, in bytes.
-const LIMIT: usize = 8_192;
-
-// What longer input is refused with.
-const TOO_LONG: u32 = 2;
 
 // What pool writes a grade: block defaults, block obligors, band.
 const NUMBERS: usize = 3;
@@ -83,10 +79,10 @@ fn report(book: &[u8]) {
 }
 
 fn main() {
-    let mut input = [0u8; LIMIT + 1];
+    let mut input = [0u8; INPUT + 1];
     let n = io::read_full(STDIN_FILENO, &mut input);
-    if LIMIT < n {
-        refused(TOO_LONG);
+    if INPUT < n {
+        refused(BOOK_LENGTH);
     } else {
         report(&input[..n]);
     }
