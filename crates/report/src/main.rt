@@ -5,7 +5,9 @@ use calls::MeasuresAnswer;
 use desk::Ack;
 use desk::Desk;
 use libc::STDIN_FILENO;
+use measures::SignedFraction;
 use print::INPUT;
+use print::labelled;
 use print::number;
 use print::signed;
 use print::text;
@@ -16,19 +18,15 @@ use table::GRADES;
 const NUMBERS: usize = 3;
 
 fn refused(n: u32) {
-    text(b"refused ");
-    number(n as u64);
+    labelled(b"refused ", n as u64);
     text(b"\n");
 }
 
 fn grade(g: usize, defaults: u32, obligors: u32, band: u32) {
     number(g as u64);
-    text(b" ");
-    number(defaults as u64);
-    text(b" ");
-    number(obligors as u64);
-    text(b" ");
-    number(band as u64);
+    labelled(b" ", defaults as u64);
+    labelled(b" ", obligors as u64);
+    labelled(b" ", band as u64);
     text(b"\n");
 }
 
@@ -48,17 +46,18 @@ fn grades(pooled: [u32; NUMBERS * GRADES], count: usize)
     }
 }
 
+fn fraction(f: SignedFraction) {
+    signed(f.numerator);
+    labelled(b" ", f.denominator);
+    text(b"\n");
+}
+
 fn gini(desk: Desk)
     requires { ⌜ SoundDesk desk ⌝ }
 {
     text(b"gini ");
     match desk.measures(1) {
-        MeasuresAnswer::Measures(m) => {
-            signed(m.gini.numerator);
-            text(b" ");
-            number(m.gini.denominator);
-            text(b"\n");
-        }
+        MeasuresAnswer::Measures(m) => fraction(m.gini),
         MeasuresAnswer::Refused(n) => refused(n),
     }
 }
