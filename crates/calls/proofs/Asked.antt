@@ -1,15 +1,14 @@
 -- What the first check of a call on a lent place tells: the place is empty, and 22 is the answer, or it holds a table.
 use Prim.Native.Nat.{ℕ}
-use mathlib.Core.Path.{_≡_, refl, sym, _∙_}
+use mathlib.Core.Path.{_≡_, refl, sym}
 use mathlib.Core.Bool.{Bool, true, false, not, cond}
 use mathlib.Core.List.{List}
 use native.Mathlib.Omega.{arith}
 use Rattle.table.specs.declared.Place.{Place}
 use Rattle.table.specs.Words.{placeIn, tableIn, HoldsTable, IsPlace}
 use Rattle.table.proofs.Words.{holds-table}
-use Rattle.book.specs.Checks.{fault}
 use Rattle.book.proofs.Checks.{Finds, found, stop, go}
-use Rattle.calls.specs.Answers.{Answer, refused, answer}
+use Rattle.calls.specs.Answers.{refused, answer}
 use Rattle.calls.specs.Calls.{emptyFault, Question, questionChecks, questionFault}
 use Rattle.calls.proofs.Answered.{refuses}
 

@@ -12,7 +12,6 @@ use Rattle.table.proofs.Words.{holds-table}
 use Rattle.book.specs.Checks.{Check, at-most, equal}
 use Rattle.book.proofs.Checks.{Finds, found, stop, go}
 use Rattle.cutoff.specs.declared.Verdict.{Verdict}
-use Rattle.cutoff.specs.Verdict.{IsVerdict}
 use Rattle.calls.specs.declared.TotalsAnswer.{TotalsAnswer}
 use Rattle.calls.specs.declared.TotalsAnswer.the-variants.{Totals as Given, Refused}
 use Rattle.calls.specs.Answers.{Answer, accepted, refused, answer, Limited, SameRefusal, totalsSays}

@@ -22,8 +22,8 @@ use Rattle.measures.specs.Claims.{Mixed}
 use Rattle.calls.specs.Calls.{measures, questionFault, pool, fillFault}
 use Rattle.desk.specs.declared.Desk.{Desk}
 use Rattle.desk.specs.Desk.{tableAt, SoundDesk}
-use Rattle.desk.specs.Calls.{ask, fill, write, numberOf, lentAfter, loadedTables}
 use Rattle.desk.proofs.Asked.{table-sound}
+use Rattle.desk.specs.Calls.{ask, fill, write, numberOf, lentAfter, loadedTables}
 use Rattle.demands.specs.History.{nothing, table, filled}
 
 -- Pool and measures.
@@ -33,14 +33,14 @@ pub regression-written : (d : Desk) → SoundDesk d → (i : ℕ) (out : List �
 unfolding fillFault
 regression-written d s i out e =
     let f = held-first _ _ (held-first _ _ e .1) in
-    rw (e, rates-written (tableAt d i) out) (pooled-regression (tableAt d i) (table-sound d i s (f .0) .occupied))
+    rw (e, rates-written (tableAt d i) out) (pooled-regression (tableAt d i) (table-sound d s i (f .0) .occupied))
 
 pub measured-mixed : (d : Desk) → SoundDesk d → (i : ℕ) → numberOf d (ask i measures) ≡ 0 → Mixed (tableAt d i)
 unfolding questionFault
 measured-mixed d s i e =
     let f = held-first _ _ (held-first _ _ e .1) in
     let h = held _ (f .1) in
-    record { counted = table-sound d i s (f .0) .counted; defaulted = h .0; survived = h .1 .0 }
+    record { counted = table-sound d s i (f .0) .counted; defaulted = h .0; survived = h .1 .0 }
 
 -- Write.
 

@@ -14,7 +14,7 @@ use Rattle.table.proofs.Test.{by-test}
 use Rattle.table.proofs.Words.{long-place, place-back, is-place, sound-loaded}
 use Rattle.book.specs.Encode.{bookSize}
 use Rattle.book.specs.Writing.{lengthOr}
-use Rattle.book.proofs.Checks.{first-none}
+use Rattle.book.proofs.Checks.{first-none, held-first}
 use Rattle.calls.specs.Answers.{Answer, answer, leaves, Limited}
 use Rattle.calls.specs.Calls.{emptyFault, Question, questionFault, Filling, filledWith, fillFault}
 use Rattle.desk.specs.declared.Desk.{Desk}
@@ -25,13 +25,20 @@ use Rattle.desk.specs.Calls.{placeFault, ask, fill, numberOf, lentAfter}
 pub place-sound : (d : Desk) (i : ℕ) → SoundDesk d → SoundPlace (placeAt d i)
 place-sound d i s = by-test SoundPlace (eqb i 1) {l = d .first} {r = d .second} (λ _. s .first) (λ _. s .second)
 
+-- A loaded place of a sound desk holds a sound table, and so does one that answers a question.
+
 is-loaded : (b : Bool) → _≡_ {A = ℕ} (cond b 0 22) 0 → b ≡ true
 is-loaded true e = refl
 is-loaded false e = absurd (omega arith)
 
--- The table that a call works on is sound.
-pub table-sound : (d : Desk) (i : ℕ) → SoundDesk d → emptyFault (placeAt d i) ≡ 0 → Sound (tableAt d i)
-table-sound d i s e = sound-loaded (place-sound d i s) (is-loaded (placeAt d i .loaded) e)
+pub table-sound : (d : Desk) → SoundDesk d → (i : ℕ) → emptyFault (placeAt d i) ≡ 0 → Sound (tableAt d i)
+table-sound d s i e = sound-loaded (place-sound d i s) (is-loaded (placeAt d i .loaded) e)
+
+pub asked-sound : (d : Desk) → SoundDesk d → (i : ℕ) (q : Question) → numberOf d (ask i q) ≡ 0 → Sound (tableAt d i)
+unfolding questionFault
+asked-sound d s i q e = table-sound d s i (held-first _ _ (held-first _ _ e .1) .0)
+
+-- The words of a place.
 
 module _ (d : Desk) (i : ℕ) (s : SoundDesk d) {w : List ℕ} (words : w ≡ wordsOf (placeAt d i)) where
   pub words-place : IsPlace w

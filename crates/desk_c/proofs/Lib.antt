@@ -1,8 +1,6 @@
-pub mod Pastes
 pub mod Images
-pub mod Loaded
-pub mod Lent
+pub mod Parts
+pub mod Changed
 pub mod Answered
 pub mod Signed
-pub mod ReadBack
 pub mod Claims

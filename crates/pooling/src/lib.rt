@@ -9,6 +9,7 @@ ghost use Rattle.pooling.specs.Pool.{blockWords, blockAt, join, pool, ra
 ghost use Rattle.pooling.specs.Band.{bandLimit, bandOf};
 ghost use Rattle.pooling.specs.Numbers.{gradesOf, pooledInto};
 use table::DEFAULTS;
+use table::PPM;
 use table::grades_of;
 
 // A run of neighbouring grades: how many, their obligors and their defaults.
@@ -66,7 +67,7 @@ impl Block {
         requires { ⌜ (bandOf self ≤ most) × (most ≤ 14) ⌝ }
         ensures { λ r. ⌜ r ≡ bandOf self ⌝ }
     {
-        let rate = (self.defaults as u64) * 1_000_000;
+        let rate = (self.defaults as u64) * (PPM as u64);
         let mut b = most;
         while 0 < b {
             if band_limit(b - 1) * (self.obligors as u64) < rate {

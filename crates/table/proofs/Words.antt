@@ -11,7 +11,7 @@ use lib.Seq.{paste, set-at, take-all, take-at, drop-at, drop-drop, getD-take, ge
 use Rattle.table.specs.declared.Place.{Place}
 use Rattle.table.specs.Table.{Occupied, Counted, Rated, Sound}
 use Rattle.table.specs.Place.{fresh, gradeAt, tableOf, placeOf, SoundPlace, empty, holds}
-use Rattle.table.specs.Words.{placeSize, wordsOf, columnIn, placeIn, tableIn, HoldsTable, IsPlace}
+use Rattle.table.specs.Words.{placeSize, wordsOf, columnIn, placeIn, HoldsTable, IsPlace}
 use Rattle.table.proofs.Pastes.{paste-behind}
 use Rattle.table.proofs.Placed.{length-column, placed-grades, placed-loaded, sound-placed}
 use Rattle.table.proofs.Suffix.{suffix, suffix-down, every-suffix, length-grades, Small, small}

@@ -17,7 +17,7 @@ use Rattle.calls.specs.Calls.{measures, brier, questionFault}
 use Rattle.desk.specs.declared.Desk.{Desk}
 use Rattle.desk.specs.Desk.{tableAt, SoundDesk}
 use Rattle.desk.specs.Calls.{ask, numberOf}
-use Rattle.desk.proofs.Asked.{table-sound}
+use Rattle.desk.proofs.Asked.{asked-sound}
 use Rattle.verdict.specs.Scores.{Scored, ProperMeasures, Measured}
 
 by-answer : {A : Type 0} (P : Answer A → Type 0) (n : ℕ) {x : A} → (n ≡ 0 → P (accepted x)) → ((m : ℕ) → P (refused m)) → P (answer n x)
@@ -50,13 +50,7 @@ measures-proper t s d v =
 
 module _ (d : Desk) (s : SoundDesk d) (i : ℕ) where
   pub scored : Scored (answer (numberOf d (ask i brier)) (brierOf (tableAt d i)))
-  unfolding questionFault
-  scored =
-      by-answer
-      Scored
-      (numberOf d (ask i brier))
-      (λ e. brier-proper _ (table-sound d i s (held-first _ _ (held-first _ _ e .1) .0)))
-      (λ _. tt)
+  scored = by-answer Scored (numberOf d (ask i brier)) (λ e. brier-proper _ (asked-sound d s i brier e)) (λ _. tt)
 
   pub measured : Measured (answer (numberOf d (ask i measures)) (measuresOf (tableAt d i)))
   unfolding questionFault
@@ -65,7 +59,6 @@ module _ (d : Desk) (s : SoundDesk d) (i : ℕ) where
       Measured
       (numberOf d (ask i measures))
       (λ e.
-      let f = held-first _ _ (held-first _ _ e .1) in
-      let h = held _ (f .1) in
-      measures-proper _ (table-sound d i s (f .0)) (h .0) (h .1 .0))
+      let h = held _ (held-first _ _ (held-first _ _ e .1) .1) in
+      measures-proper _ (asked-sound d s i measures e) (h .0) (h .1 .0))
       (λ _. tt)

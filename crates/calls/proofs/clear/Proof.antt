@@ -5,7 +5,7 @@ use mathlib.Core.List.{[]}
 use native.Mathlib.Omega.{arith}
 use borrow.Author.Needs.{needs}
 use denote.Ref.{now}
-use lib.ListN.{length, getD, set, drop, replicate, length-set, drop-of-length-le}
+use lib.ListN.{length, set, drop, replicate, length-set, drop-of-length-le}
 use lib.Seq.{paste, paste-zero, paste-suc}
 use Rattle.table.proofs.Placed.{zeros-at}
 use Rattle.calls.specs.Calls.{changeFault}

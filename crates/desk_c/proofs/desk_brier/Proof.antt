@@ -1,62 +1,65 @@
 -- `desk_brier` meets its contract.
-use mathlib.Core.Path.{_≡_, ap, sym, _∙_}
+use mathlib.Core.Path.{_≡_, refl, ap, sym, _∙_}
 use native.Mathlib.Omega.{arith}
 use borrow.Author.Needs.{needs}
 use denote.Ref.{now}
-use Rattle.book.specs.Checks.{first}
+use Rattle.table.specs.declared.Place.{Place}
+use Rattle.table.specs.Place.{tableOf}
+use Rattle.table.specs.Words.{wordsOf}
 use Rattle.measures.specs.Brier.{brierOf}
 use Rattle.measures.proofs.Sizes.{FewBrier, few-brier}
-use Rattle.desk.specs.Answers.{accepted, answer, brierSays}
+use Rattle.calls.specs.Answers.{answer, brierSays}
+use Rattle.calls.specs.Calls.{brier}
 use Rattle.desk.specs.Desk.{placeAt}
-use Rattle.desk.specs.Calls.{placeFault, emptyFault, heldFault, tableAt}
-use Rattle.desk_c.specs.Image.{deskIn}
+use Rattle.desk.specs.Calls.{placeFault, ask, numberOf}
+use Rattle.desk.proofs.Number.{there, missing}
+use Rattle.desk.proofs.Asked.{words-place, answered, asked-sound}
+use Rattle.desk_c.specs.Image.{deskIn, tableOn}
 use Rattle.desk_c.specs.Numbers.{fractionNumbers}
-use Rattle.desk_c.proofs.Images.{image-length}
-use Rattle.desk_c.proofs.Answered.{is-place, no-held, sound-at, unchanged, accepted-is, stored, kept, loaded-sound}
+use Rattle.desk_c.proofs.Images.{words-of}
+use Rattle.desk_c.proofs.Answered.{accepted-is, kept}
 use Rattle.desk_c.proofs.Signed.{signed}
 use Rattle.desk_c.proofs.desk_brier.Statement.{statement}
 use Rattle.desk_c.proofs.desk_brier.Tie as tie
 
 returns : tie.Need-returns
-returns c =
-    let a = c .before .before .args in
-    unchanged _ _ (no-held (deskIn (now (a .desk))) (a .place) (c .before .is-place .ensures) (c .if1 .taken))
+returns c = (missing _ _ _ (c .before .is-place .ensures) (c .if1 .taken), refl)
 
-at : (c : tie.Else1) → placeFault (c .before .before .args .place) ≡ 0
-at c = is-place _ (c .before .is-place .ensures) (c .if1 .left)
+-- the place that is asked
+abbrev start : tie.After-words-at → tie.Start
+start c = c .before .before .before .before .before
 
-brier-at-requires : tie.Need-brier-at-requires
-brier-at-requires c κs =
-    let a = c .before .before .before in
-    ((image-length (a .pre), at (c .before)), sound-at (a .args .place) (a .pre .sound))
+at : (c : tie.After-words-at) → now (c .words-at .result) ≡ wordsOf (placeAt (deskIn (now (start c .args .desk))) (start c .args .place))
+at c = c .words-at .ensures ∙ words-of (start c .pre) (start c .args .place) _ (c .before .start-of .ensures .0)
 
--- what the accepted answer is
-scored : (c : tie.After-scored) →
-    let a = c .before .before .before .before .before .before .args in
-    accepted (c .scored .given .0 .0) ≡ answer (emptyFault (placeAt (deskIn (now (a .desk))) (a .place))) (brierOf (tableAt (deskIn (now (a .desk))) (a .place)))
-scored c =
-    let d = c .before .before in
-    ap brierSays (sym (c .scored .given .1)) ∙ d .brier-at .ensures
+here : (c : tie.After-words-at) → placeFault (start c .args .place) ≡ 0
+here c = let l = c .before .before .before in there _ _ (l .before .is-place .ensures) (l .if1 .left)
+
+says : (c : tie.After-brier)
+    → brierSays (c .brier .result) ≡ answer (numberOf (deskIn (now (start (c .before) .args .desk))) (ask (start (c .before) .args .place) brier)) (brierOf (tableOn (now (start (c .before) .args .desk)) (start (c .before) .args .place)))
+says c =
+    let a = start (c .before) in
+    answered (deskIn (now (a .args .desk))) (a .args .place) (a .pre .sound) (at (c .before)) (here (c .before)) brier (λ (p : Place). brierOf (tableOf p)) (c .brier .ensures)
+
+-- the accepted answer, and its size
+abbrev answer-of : tie.After-scored → tie.After-brier
+answer-of c = c .before .before
 
 few : (c : tie.After-scored) → FewBrier (c .scored .given .0 .0)
 few c =
-    let a = c .before .before .before .before .before .before in
-    let e = accepted-is _ (scored c) in
-    rw (e .1) (few-brier (loaded-sound (sound-at (a .args .place) (a .pre .sound)) (e .0)))
+    let a = start (answer-of c .before) in
+    let e = accepted-is _ _ (ap brierSays (sym (c .scored .given .1)) ∙ says (answer-of c)) in
+    rw (e .1) (few-brier (asked-sound _ (a .pre .sound) (a .args .place) brier (sym (e .0))))
 
 returns-2 : tie.Need-returns-2
-unfolding heldFault first
 returns-2 c =
-    let a = c .before .before .before .before in
-    let f = few a in
-    rw (at (a .before .before .before .before), signed _ (f .numerator), signed _ (f .denominator)) (stored fractionNumbers _ _ _ (scored a))
+    let k = c .before .before .before .before in
+    let f = few k in
+    let e = accepted-is _ _ (ap brierSays (sym (k .scored .given .1)) ∙ says (answer-of k)) in
+    rw (signed _ (f .numerator), signed _ (f .denominator)) (e .0, ap fractionNumbers (e .1))
 
 returns-3 : tie.Need-returns-3
-unfolding heldFault first
-returns-3 c =
-    let d = c .before .before .before in
-    let e = d .brier-at .ensures in
-    rw (at (d .before .before)) (kept _ _ _ _ _ (ap brierSays (sym (c .before .scored2 .given .1)) ∙ e))
+returns-3 c = kept _ _ _ _ _ (ap brierSays (sym (c .before .scored2 .given .1)) ∙ says (c .before .before .before))
 
 pub desk-brier-spec : {M : Type 1} → statement M
 desk-brier-spec =
@@ -64,7 +67,9 @@ desk-brier-spec =
     (tie.spec
     (λ c κs. search needs)
     returns
-    brier-at-requires
+    (λ c κs. search needs)
+    (λ c κs. search needs)
+    (λ c κs. words-place _ (start c .args .place) (start c .pre .sound) (at c))
     (λ c. search needs)
     (λ c. let f = few (c .before .before) in record { sfits = omega arith })
     (λ c. let f = few (c .before .before .before) in record { sfits = omega arith })

@@ -1,46 +1,52 @@
 -- `desk_cheapest` meets its contract.
-use mathlib.Core.Path.{_≡_, ap, sym, _∙_}
-use native.Mathlib.Omega.{arith}
+use mathlib.Core.Path.{_≡_, refl, ap, sym, _∙_}
 use borrow.Author.Needs.{needs}
 use denote.Ref.{now}
-use Rattle.book.specs.Checks.{first}
-use Rattle.book.proofs.Checks.{stop}
-use Rattle.desk.specs.Answers.{cheapestSays}
-use Rattle.desk.specs.Calls.{placeFault, heldFault, cheapestFault}
-use Rattle.desk_c.specs.Image.{deskIn}
+use Rattle.table.specs.declared.Place.{Place}
+use Rattle.table.specs.Place.{tableOf}
+use Rattle.table.specs.Words.{wordsOf}
+use Rattle.cutoff.specs.Cutoff.{cheapestOf}
+use Rattle.calls.specs.Answers.{answer, cheapestSays}
+use Rattle.calls.specs.Calls.{cheapest}
+use Rattle.desk.specs.Desk.{placeAt}
+use Rattle.desk.specs.Calls.{placeFault, ask, numberOf}
+use Rattle.desk.proofs.Number.{there, missing}
+use Rattle.desk.proofs.Asked.{words-place, answered}
+use Rattle.desk_c.specs.Image.{deskIn, tableOn}
 use Rattle.desk_c.specs.Numbers.{cutoffNumbers}
-use Rattle.desk_c.proofs.Images.{image-length}
-use Rattle.desk_c.proofs.Answered.{is-place, no-held, sound-at, unchanged, stored, kept}
+use Rattle.desk_c.proofs.Images.{words-of}
+use Rattle.desk_c.proofs.Answered.{accepted-is, kept}
 use Rattle.desk_c.proofs.desk_cheapest.Statement.{statement}
 use Rattle.desk_c.proofs.desk_cheapest.Tie as tie
 
 returns : tie.Need-returns
-unfolding cheapestFault
-returns c =
-    let a = c .before .before .args in
-    unchanged _ _ (stop _ (no-held (deskIn (now (a .desk))) (a .place) (c .before .is-place .ensures) (c .if1 .taken)) (λ z. omega arith))
+returns c = (missing _ _ _ (c .before .is-place .ensures) (c .if1 .taken), refl)
 
-at : (c : tie.Else1) → placeFault (c .before .before .args .place) ≡ 0
-at c = is-place _ (c .before .is-place .ensures) (c .if1 .left)
+-- the place that is asked
+abbrev start : tie.After-words-at → tie.Start
+start c = c .before .before .before .before .before
 
-cheapest-at-requires : tie.Need-cheapest-at-requires
-cheapest-at-requires c κs =
-    let a = c .before .before .before in
-    ((image-length (a .pre), at (c .before)), sound-at (a .args .place) (a .pre .sound))
+at : (c : tie.After-words-at) → now (c .words-at .result) ≡ wordsOf (placeAt (deskIn (now (start c .args .desk))) (start c .args .place))
+at c = c .words-at .ensures ∙ words-of (start c .pre) (start c .args .place) _ (c .before .start-of .ensures .0)
+
+here : (c : tie.After-words-at) → placeFault (start c .args .place) ≡ 0
+here c = let l = c .before .before .before in there _ _ (l .before .is-place .ensures) (l .if1 .left)
+
+says : (c : tie.After-cheapest) → cheapestSays (c .cheapest .result) ≡ answer (numberOf (deskIn (now (start (c .before) .args .desk))) (ask (start (c .before) .args .place) (cheapest (start (c .before) .args .u) (start (c .before) .args .v)))) (cheapestOf (tableOn (now (start (c .before) .args .desk)) (start (c .before) .args .place)) (start (c .before) .args .u) (start (c .before) .args .v))
+says c =
+    let a = start (c .before) in
+    answered (deskIn (now (a .args .desk))) (a .args .place) (a .pre .sound) (at (c .before)) (here (c .before)) (cheapest (a .args .u) (a .args .v)) (λ (p : Place). (cheapestOf (tableOf p) (a .args .u) (a .args .v))) (c .cheapest .ensures)
 
 returns-2 : tie.Need-returns-2
-unfolding cheapestFault heldFault first
 returns-2 c =
     let d = c .before .before .before .before .before in
-    let e = d .cheapest-at .ensures in
-    rw (at (d .before .before)) (stored cutoffNumbers _ _ _ (ap cheapestSays (sym (c .before .before .before .cheapest .given .1)) ∙ e))
+    let e = accepted-is _ _ (ap cheapestSays (sym (c .before .before .before .cheapest2 .given .1)) ∙ says d) in
+    (e .0, ap cutoffNumbers (e .1))
 
 returns-3 : tie.Need-returns-3
-unfolding cheapestFault heldFault first
 returns-3 c =
     let d = c .before .before .before in
-    let e = d .cheapest-at .ensures in
-    rw (at (d .before .before)) (kept _ _ _ _ _ (ap cheapestSays (sym (c .before .cheapest2 .given .1)) ∙ e))
+    kept _ _ _ _ _ (ap cheapestSays (sym (c .before .cheapest3 .given .1)) ∙ says d)
 
 pub desk-cheapest-spec : {M : Type 1} → statement M
 desk-cheapest-spec =
@@ -48,7 +54,9 @@ desk-cheapest-spec =
     (tie.spec
     (λ c κs. search needs)
     returns
-    cheapest-at-requires
+    (λ c κs. search needs)
+    (λ c κs. search needs)
+    (λ c κs. words-place _ (start c .args .place) (start c .pre .sound) (at c))
     (λ c. search needs)
     (λ c. search needs)
     (λ c. search needs)

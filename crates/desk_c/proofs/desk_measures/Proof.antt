@@ -1,67 +1,67 @@
 -- `desk_measures` meets its contract.
-use mathlib.Core.Path.{_≡_, ap, sym, _∙_}
+use mathlib.Core.Path.{_≡_, refl, ap, sym, _∙_}
 use native.Mathlib.Omega.{arith}
 use borrow.Author.Needs.{needs}
 use denote.Ref.{now}
-use Rattle.book.specs.Checks.{first, fault}
-use Rattle.book.proofs.Checks.{stop, held-first}
+use Rattle.table.specs.declared.Place.{Place}
+use Rattle.table.specs.Place.{tableOf}
+use Rattle.table.specs.Words.{wordsOf}
 use Rattle.measures.specs.Measures.{measuresOf}
 use Rattle.measures.proofs.Sizes.{FewPairs, few-measures}
-use Rattle.desk.specs.Answers.{accepted, answer, measuresSays}
+use Rattle.calls.specs.Answers.{answer, measuresSays}
+use Rattle.calls.specs.Calls.{measures}
 use Rattle.desk.specs.Desk.{placeAt}
-use Rattle.desk.specs.Calls.{placeFault, emptyFault, heldFault, outcomeChecks, measuresFault, tableAt}
-use Rattle.desk_c.specs.Image.{deskIn}
+use Rattle.desk.specs.Calls.{placeFault, ask, numberOf}
+use Rattle.desk.proofs.Number.{there, missing}
+use Rattle.desk.proofs.Asked.{words-place, answered, asked-sound}
+use Rattle.desk_c.specs.Image.{deskIn, tableOn}
 use Rattle.desk_c.specs.Numbers.{measuresNumbers}
-use Rattle.desk_c.proofs.Images.{image-length}
-use Rattle.desk_c.proofs.Answered.{is-place, no-held, sound-at, unchanged, accepted-is, stored, kept, loaded-sound}
+use Rattle.desk_c.proofs.Images.{words-of}
+use Rattle.desk_c.proofs.Answered.{accepted-is, kept}
 use Rattle.desk_c.proofs.Signed.{Signed, stores-numbers}
 use Rattle.desk_c.proofs.desk_measures.Statement.{statement}
 use Rattle.desk_c.proofs.desk_measures.Tie as tie
 
 returns : tie.Need-returns
-unfolding measuresFault
-returns c =
-    let a = c .before .before .args in
-    unchanged _ _ (stop _ (no-held (deskIn (now (a .desk))) (a .place) (c .before .is-place .ensures) (c .if1 .taken)) (λ z. omega arith))
+returns c = (missing _ _ _ (c .before .is-place .ensures) (c .if1 .taken), refl)
 
-at : (c : tie.Else1) → placeFault (c .before .before .args .place) ≡ 0
-at c = is-place _ (c .before .is-place .ensures) (c .if1 .left)
+-- the place that is asked
+abbrev start : tie.After-words-at → tie.Start
+start c = c .before .before .before .before .before
 
-measures-at-requires : tie.Need-measures-at-requires
-measures-at-requires c κs =
-    let a = c .before .before .before in
-    ((image-length (a .pre), at (c .before)), sound-at (a .args .place) (a .pre .sound))
+at : (c : tie.After-words-at) → now (c .words-at .result) ≡ wordsOf (placeAt (deskIn (now (start c .args .desk))) (start c .args .place))
+at c = c .words-at .ensures ∙ words-of (start c .pre) (start c .args .place) _ (c .before .start-of .ensures .0)
 
--- what the accepted answer is
-measured : (c : tie.After-measured) →
-    let a = c .before .before .before .before .before .before .args in
-    let t = tableAt (deskIn (now (a .desk))) (a .place) in
-    accepted (c .measured .given .0 .0) ≡ answer (first (emptyFault (placeAt (deskIn (now (a .desk))) (a .place))) (fault (outcomeChecks t))) (measuresOf t)
-measured c =
-    let d = c .before .before in
-    ap measuresSays (sym (c .measured .given .1)) ∙ d .measures-at .ensures
+here : (c : tie.After-words-at) → placeFault (start c .args .place) ≡ 0
+here c = let l = c .before .before .before in there _ _ (l .before .is-place .ensures) (l .if1 .left)
+
+says : (c : tie.After-measures)
+    → measuresSays (c .measures .result) ≡ answer (numberOf (deskIn (now (start (c .before) .args .desk))) (ask (start (c .before) .args .place) measures)) (measuresOf (tableOn (now (start (c .before) .args .desk)) (start (c .before) .args .place)))
+says c =
+    let a = start (c .before) in
+    answered (deskIn (now (a .args .desk))) (a .args .place) (a .pre .sound) (at (c .before)) (here (c .before)) measures (λ (p : Place). measuresOf (tableOf p)) (c .measures .ensures)
+
+-- the accepted answer, and its size
+abbrev answer-of : tie.After-measured → tie.After-measures
+answer-of c = c .before .before
 
 few : (c : tie.After-measured) → FewPairs (c .measured .given .0 .0)
 few c =
-    let a = c .before .before .before .before .before .before in
-    let e = accepted-is _ (measured c) in
-    rw (e .1) (few-measures (loaded-sound (sound-at (a .args .place) (a .pre .sound)) (held-first _ _ (e .0) .0)))
+    let a = start (answer-of c .before) in
+    let e = accepted-is _ _ (ap measuresSays (sym (c .measured .given .1)) ∙ says (answer-of c)) in
+    rw (e .1) (few-measures (asked-sound _ (a .pre .sound) (a .args .place) measures (sym (e .0))))
 
 returns-2 : tie.Need-returns-2
-unfolding measuresFault heldFault first
 returns-2 c =
-    let a = c .before .before .before .before .before .before .before .before .before .before .before .before in
-    let m = a .measured .given .0 .0 in
+    let k = c .before .before .before .before .before .before .before .before .before .before .before .before in
+    let m = k .measured .given .0 .0 in
     let fits = c .before .struct-told .given in
-    let known : Signed m = record { gini = record { sfits = fits .1 .1 .0 .1 .1 .0 .1 }; pietra = record { sfits = fits .1 .1 .1 .1 .1 .0 .1 .1 .0 .1 }; few = few a } in
-    rw (at (a .before .before .before .before), stores-numbers m known) (stored measuresNumbers _ _ _ (measured a))
+    let known : Signed m = record { gini = record { sfits = fits .1 .1 .0 .1 .1 .0 .1 }; pietra = record { sfits = fits .1 .1 .1 .1 .1 .0 .1 .1 .0 .1 }; few = few k } in
+    let e = accepted-is _ _ (ap measuresSays (sym (k .measured .given .1)) ∙ says (answer-of k)) in
+    rw (stores-numbers m known) (e .0, ap measuresNumbers (e .1))
 
 returns-3 : tie.Need-returns-3
-unfolding measuresFault heldFault first
-returns-3 c =
-    let d = c .before .before .before in
-    let e = d .measures-at .ensures in
-    rw (at (d .before .before)) (kept _ _ _ _ _ (ap measuresSays (sym (c .before .measured2 .given .1)) ∙ e))
+returns-3 c = kept _ _ _ _ _ (ap measuresSays (sym (c .before .measured2 .given .1)) ∙ says (c .before .before .before))
 
 pub desk-measures-spec : {M : Type 1} → statement M
 desk-measures-spec =
@@ -69,7 +69,9 @@ desk-measures-spec =
     (tie.spec
     (λ c κs. search needs)
     returns
-    measures-at-requires
+    (λ c κs. search needs)
+    (λ c κs. search needs)
+    (λ c κs. words-place _ (start c .args .place) (start c .pre .sound) (at c))
     (λ c. search needs)
     (λ c. search needs)
     (λ c. search needs)

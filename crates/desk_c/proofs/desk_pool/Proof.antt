@@ -1,47 +1,47 @@
 -- `desk_pool` meets its contract.
-use mathlib.Core.Path.{_≡_, ap, sym, _∙_}
+use mathlib.Core.Path.{_≡_, refl, _∙_}
 use native.Mathlib.Omega.{arith}
 use borrow.Author.Needs.{needs}
 use denote.Ref.{now}
-use Rattle.book.specs.Checks.{first}
-use Rattle.book.proofs.Checks.{stop}
-use Rattle.desk.specs.Answers.{ackSays}
-use Rattle.desk.specs.Calls.{placeFault, heldFault, poolFault}
+use Rattle.table.specs.Words.{wordsOf}
+use Rattle.calls.specs.Calls.{pool}
+use Rattle.calls.proofs.Answered.{left-alone}
+use Rattle.desk.specs.Desk.{placeAt}
+use Rattle.desk.specs.Calls.{placeFault}
+use Rattle.desk.proofs.Number.{there, missing}
+use Rattle.desk.proofs.Asked.{words-place, fill-number, fill-buffer}
 use Rattle.desk_c.specs.Image.{deskIn}
-use Rattle.desk_c.proofs.Images.{image-length}
-use Rattle.desk_c.proofs.Answered.{is-place, no-held, sound-at, unchanged, accepted-is, refused-is}
+use Rattle.desk_c.proofs.Images.{words-of}
 use Rattle.desk_c.proofs.desk_pool.Statement.{statement}
 use Rattle.desk_c.proofs.desk_pool.Tie as tie
 
 returns : tie.Need-returns
-unfolding poolFault
 returns c =
-    let a = c .before .before .before .args in
-    unchanged _ _ (stop _ (no-held (deskIn (now (a .desk))) (a .place) (c .before .is-place .ensures) (c .if1 .taken)) (λ z. omega arith))
+    let e = missing _ _ _ (c .before .is-place .ensures) (c .if1 .taken) in
+    (e, left-alone 1 _ e (λ z. omega arith) refl)
 
-at : (c : tie.Else1) → placeFault (c .before .before .before .args .place) ≡ 0
-at c = is-place _ (c .before .is-place .ensures) (c .if1 .left)
+-- the place that is asked
+abbrev start : tie.After-words-at → tie.Start
+start c = c .before .before .before .before .before .before
 
-pool-at-requires : tie.Need-pool-at-requires
-pool-at-requires c κs =
-    let a = c .before .before .before .before .before in
-    ((image-length (a .pre), at (c .before .before)), sound-at (a .args .place) (a .pre .sound))
+at : (c : tie.After-words-at) → now (c .words-at .result) ≡ wordsOf (placeAt (deskIn (now (start c .args .desk))) (start c .args .place))
+at c = c .words-at .ensures ∙ words-of (start c .pre) (start c .args .place) _ (c .before .start-of .ensures .0)
+
+here : (c : tie.After-words-at) → placeFault (start c .args .place) ≡ 0
+here c = let l = c .before .before .before in there _ _ (l .before .is-place .ensures) (l .if1 .left)
+
+pool-requires : tie.Need-pool-requires
+pool-requires c κs = let k = c .before in words-place _ (start k .args .place) (start k .pre .sound) (at k)
 
 returns-2 : tie.Need-returns-2
-unfolding poolFault heldFault first
 returns-2 c =
-    let d = c .before .before .before .before in
-    let o = d .pool-at .ensures in
-    let z = accepted-is _ (ap ackSays (sym (c .enum-told .given .1)) ∙ o .answers) in
-    rw (at (d .before .before .before)) (sym (z .0), o .leaves)
-
-returns-3 : tie.Need-returns-3
-unfolding poolFault heldFault first
-returns-3 c =
-    let d = c .before .before .before .before .before in
-    let o = d .pool-at .ensures in
-    let z = refused-is _ _ _ (ap ackSays (sym (c .before .ack .given .1)) ∙ o .answers) in
-    rw (at (d .before .before .before)) (z .0, o .leaves)
+    let p = c .before .before in
+    let k = p .before .before in
+    let a = start k in
+    let d = deskIn (now (a .args .desk)) in (
+      fill-number d (a .args .place) (a .pre .sound) (at k) (here k) pool (now (a .args .numbers)) (p .pool .ensures .0),
+      fill-buffer d (a .args .place) (a .pre .sound) (at k) (here k) pool (now (a .args .numbers)) (p .pool .ensures .0) (p .pool .ensures .1),
+    )
 
 pub desk-pool-spec : {M : Type 1} → statement M
 desk-pool-spec =
@@ -49,10 +49,8 @@ desk-pool-spec =
     (tie.spec
     (λ c κs. search needs)
     returns
-    pool-at-requires
+    (λ c κs. search needs)
+    (λ c κs. search needs)
+    pool-requires
     (λ c. search needs)
-    (λ c. search needs)
-    (λ c. search needs)
-    returns-2
-    (λ c. search needs)
-    returns-3)
+    returns-2)

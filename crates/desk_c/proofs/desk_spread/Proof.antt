@@ -1,47 +1,56 @@
 -- `desk_spread` meets its contract.
-use mathlib.Core.Path.{_≡_, sym}
-use native.Mathlib.Omega.{arith}
+use mathlib.Core.Path.{_≡_, refl, sym, _∙_}
 use borrow.Author.Needs.{needs}
 use denote.Ref.{now}
-use Rattle.book.specs.Checks.{first}
+use Rattle.table.specs.declared.Place.{Place}
+use Rattle.table.specs.Place.{tableOf}
+use Rattle.table.specs.Words.{wordsOf}
 use Rattle.spread.specs.Spread.{IsSpread}
-use Rattle.desk.specs.Calls.{placeFault, heldFault, tableAt}
-use Rattle.desk_c.specs.Image.{deskIn}
+use Rattle.calls.specs.Answers.{Limited, spreadSays}
+use Rattle.calls.specs.Calls.{spread}
+use Rattle.desk.specs.Desk.{placeAt}
+use Rattle.desk.specs.Calls.{placeFault, ask, numberOf}
+use Rattle.desk.proofs.Number.{there, missing}
+use Rattle.desk.proofs.Asked.{words-place, limited}
+use Rattle.desk_c.specs.Image.{deskIn, tableOn}
 use Rattle.desk_c.specs.Numbers.{spreadNumbers}
-use Rattle.desk_c.proofs.Images.{image-length}
-use Rattle.desk_c.proofs.Answered.{is-place, no-held, sound-at, left-stored, left-kept}
+use Rattle.desk_c.proofs.Images.{words-of}
+use Rattle.desk_c.proofs.Answered.{left-kept}
 use Rattle.desk_c.proofs.desk_spread.Statement.{statement}
 use Rattle.desk_c.proofs.desk_spread.Tie as tie
 
 returns : tie.Need-returns
-returns c =
-    let a = c .before .before .args in
-    left-kept (IsSpread (tableAt (deskIn (now (a .desk))) (a .place))) spreadNumbers _ 1 _
-    (sym (no-held (deskIn (now (a .desk))) (a .place) (c .before .is-place .ensures) (c .if1 .taken))) (λ z. omega arith)
+returns c = (missing _ _ _ (c .before .is-place .ensures) (c .if1 .taken), refl)
 
-at : (c : tie.Else1) → placeFault (c .before .before .args .place) ≡ 0
-at c = is-place _ (c .before .is-place .ensures) (c .if1 .left)
+-- the place that is asked
+abbrev start : tie.After-words-at → tie.Start
+start c = c .before .before .before .before .before
 
-spread-at-requires : tie.Need-spread-at-requires
-spread-at-requires c κs =
-    let a = c .before .before .before in
-    ((image-length (a .pre), at (c .before)), sound-at (a .args .place) (a .pre .sound))
+at : (c : tie.After-words-at) → now (c .words-at .result) ≡ wordsOf (placeAt (deskIn (now (start c .args .desk))) (start c .args .place))
+at c = c .words-at .ensures ∙ words-of (start c .pre) (start c .args .place) _ (c .before .start-of .ensures .0)
+
+here : (c : tie.After-words-at) → placeFault (start c .args .place) ≡ 0
+here c = let l = c .before .before .before in there _ _ (l .before .is-place .ensures) (l .if1 .left)
+
+says : (c : tie.After-spread)
+    → Limited (numberOf (deskIn (now (start (c .before) .args .desk))) (ask (start (c .before) .args .place) spread))
+    (IsSpread (tableOn (now (start (c .before) .args .desk)) (start (c .before) .args .place))) (spreadSays (c .spread .result))
+says c =
+    let a = start (c .before) in
+    limited (deskIn (now (a .args .desk))) (a .args .place) (a .pre .sound) (at (c .before)) (here (c .before)) spread
+    (λ (p : Place). IsSpread (tableOf p)) (spreadSays (c .spread .result)) (c .spread .ensures)
 
 returns-2 : tie.Need-returns-2
-unfolding heldFault first
 returns-2 c =
-    let d = c .before .before .before .before in
-    let a = d .before .before .before .before .args in
-    let e = rw (c .before .before .spread .given .1) at (d .spread-at .ensures) in
-    rw (at (d .before .before)) (left-stored (IsSpread (tableAt (deskIn (now (a .desk))) (a .place))) spreadNumbers _ _ (e .0) (e .1))
+    let e = rw (c .before .before .spread2 .given .1) at (says (c .before .before .before .before)) in
+    (sym (e .0), (_, e .1, refl))
 
 returns-3 : tie.Need-returns-3
-unfolding heldFault first
 returns-3 c =
     let d = c .before .before .before in
-    let a = d .before .before .before .before .args in
-    let e = rw (c .before .spread2 .given .1) at (d .spread-at .ensures) in
-    rw (at (d .before .before)) (left-kept (IsSpread (tableAt (deskIn (now (a .desk))) (a .place))) spreadNumbers _ _ _ (e .0) (e .1))
+    let a = start (d .before) in
+    let e = rw (c .before .spread3 .given .1) at (says d) in
+    left-kept (IsSpread (tableOn (now (a .args .desk)) (a .args .place))) spreadNumbers _ _ _ (e .0) (e .1)
 
 pub desk-spread-spec : {M : Type 1} → statement M
 desk-spread-spec =
@@ -49,7 +58,9 @@ desk-spread-spec =
     (tie.spec
     (λ c κs. search needs)
     returns
-    spread-at-requires
+    (λ c κs. search needs)
+    (λ c κs. search needs)
+    (λ c κs. words-place _ (start c .args .place) (start c .pre .sound) (at c))
     (λ c. search needs)
     (λ c. search needs)
     returns-2

@@ -1,33 +1,78 @@
 -- `desk_write` meets its contract.
-use mathlib.Core.Path.{ap, sym, _∙_}
+use mathlib.Core.Path.{_≡_, refl, sym, ap, _∙_}
+use mathlib.Core.List.{List}
+use Prim.Native.Nat.{ℕ}
 use borrow.Author.Needs.{needs}
+use denote.Ref.{now}
+use lib.ListN.{length}
+use Rattle.table.specs.Table.{Table}
+use Rattle.book.specs.Encode.{bookSize}
+use Rattle.book.specs.Writing.{lentTables, writeFault, writeAnswer, bufferAfter}
+use Rattle.book.proofs.Books.{writable}
+use Rattle.calls.specs.Answers.{answer}
 use Rattle.desk.specs.Answers.{writtenSays}
-use Rattle.desk.proofs.Answered.{says-written}
-use Rattle.desk_c.proofs.Images.{image-length}
-use Rattle.desk_c.proofs.Answered.{stored, kept}
+use Rattle.desk.specs.Calls.{loadedTables}
+use Rattle.desk.proofs.Asked.{words-place, says-written}
+use Rattle.desk_c.specs.Image.{wordsFrom, deskIn}
+use Rattle.desk_c.proofs.Images.{words-of}
+use Rattle.desk_c.proofs.Answered.{accepted-is, kept}
 use Rattle.desk_c.proofs.desk_write.Statement.{statement}
 use Rattle.desk_c.proofs.desk_write.Tie as tie
 
-write-both-requires : tie.Need-write-both-requires
-write-both-requires c κs = let a = c .before .before .before in (image-length (a .pre), a .pre .sound)
+-- both places
+abbrev start : tie.After-words-at2 → tie.Start
+start c = c .before .before .before .before .before
+
+write-requires : tie.Need-write-requires
+write-requires c κs =
+    let k = c .before in
+    let i = start k .pre in (
+      writable (words-place _ 1 (i .sound) (k .before .before .words-at .ensures ∙ words-of i 1 0 refl)),
+      writable (words-place _ 2 (i .sound) (k .words-at2 .ensures ∙ words-of i 2 122 refl)),
+    )
+
+abbrev places : tie.After-write → tie.After-words-at2
+places c = c .before .before
+
+tables : (c : tie.After-write)
+    → lentTables (now (places c .before .before .words-at .result)) (now (places c .words-at2 .result)) ≡ loadedTables (deskIn (now (start (places c) .args .desk)))
+tables c =
+    let k = places c in
+    ap (λ (u : List ℕ). lentTables u (now (k .words-at2 .result))) (k .before .before .words-at .ensures)
+    ∙ ap (λ (v : List ℕ). lentTables (wordsFrom (now (start k .args .desk)) 0) v) (k .words-at2 .ensures)
+
+says : (c : tie.After-write) →
+    let a = start (places c) .args in
+    let ts = loadedTables (deskIn (now (a .desk))) in
+    writtenSays (c .write .result) ≡ answer (writeFault ts (length (now (a .book)))) (bookSize ts)
+says c =
+    let a = start (places c) .args in
+    ap writtenSays (c .write .ensures .0 ∙ ap (λ (ts : List Table). writeAnswer ts (length (now (a .book)))) (tables c)) ∙ says-written _ _
+
+buffer : (c : tie.After-write) →
+    let a = start (places c) .args in
+    c .write .last .1 .1 .0 ≡ bufferAfter (loadedTables (deskIn (now (a .desk)))) (now (a .book))
+buffer c = c .write .ensures .1 ∙ ap (λ (ts : List Table). bufferAfter ts (now (start (places c) .args .book))) (tables c)
 
 returns : tie.Need-returns
 returns c =
-    let o = c .before .before .before .before .before .write-both .ensures in
-    let s = stored (λ n. n) _ _ _ (ap writtenSays (sym (c .before .answered .given .1)) ∙ ap writtenSays (o .answer) ∙ says-written _ _) in
-    (s .0, (o .buffer, s .1))
+    let d = c .before .before .before .before .before in
+    let e = accepted-is _ _ (ap writtenSays (sym (c .before .answered .given .1)) ∙ says d) in
+    (e .0, (buffer d, e .1))
 
 returns-2 : tie.Need-returns-2
 returns-2 c =
-    let o = c .before .before .before .before .before .write-both .ensures in
-    let s = kept _ _ _ _ _ (ap writtenSays (sym (c .before .answered2 .given .1)) ∙ ap writtenSays (o .answer) ∙ says-written _ _) in
-    (s .0, (o .buffer, s .1))
+    let d = c .before .before .before .before .before in
+    let e = kept _ _ _ _ _ (ap writtenSays (sym (c .before .answered2 .given .1)) ∙ says d) in
+    (e .0, (buffer d, e .1))
 
 pub desk-write-spec : {M : Type 1} → statement M
 desk-write-spec =
     tie.close
     (tie.spec
-    write-both-requires
+    (λ c κs. search needs)
+    (λ c κs. search needs)
+    write-requires
     (λ c. search needs)
     (λ c. search needs)
     (λ c. search needs)

@@ -5,7 +5,7 @@ use mathlib.Core.List.{List, _++_, append-nil}
 use native.Mathlib.Omega.{arith}
 use borrow.Author.Needs.{needs}
 use denote.Ref.{now}
-use lib.ListN.{length, getD, take, drop, replicate, length-drop}
+use lib.ListN.{getD, take, drop, replicate, length-drop}
 use lib.Seq.{set-at, append-snoc, take-suc, getD-drop, length-take-le}
 use Rattle.table.proofs.column_at.Statement.{statement}
 use Rattle.table.proofs.column_at.Tie as tie

@@ -1,7 +1,5 @@
 -- `compare` meets its contract.
-use mathlib.Core.Path.{_≡_, _∙_, ap, subst}
-use mathlib.Core.List.{List}
-use Prim.Native.Nat.{ℕ}
+use mathlib.Core.Path.{subst}
 use borrow.Author.Needs.{needs}
 use Rattle.table.specs.declared.Place.{Place}
 use Rattle.table.specs.Words.{placeIn}

@@ -1,7 +1,6 @@
 -- `stored` meets its contract.
 use mathlib.Core.Path.{_∙_, refl}
 use borrow.Author.Needs.{needs}
-use Rattle.table.specs.declared.Place.{Place}
 use Rattle.calls.proofs.Answered.{keeps}
 use Rattle.desk.proofs.Desk.stored.Statement.{statement}
 use Rattle.desk.proofs.Desk.stored.Tie as tie
