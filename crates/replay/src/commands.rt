@@ -17,12 +17,12 @@ pub struct Ran {
 const BOOK: usize = 65_535;
 
 // The longest buffer that is lent to pool, in numbers, and what it holds before.
-const NUMBERS: usize = 512;
+const LENT_NUMBERS: usize = 512;
 
 const NUMBER: u32 = 0xaaaa_aaaa;
 
 // The longest buffer that is lent to write, in bytes, and what it holds before.
-const BYTES: usize = 8_192;
+const LENT_BYTES: usize = 8_192;
 
 const BYTE: u8 = 0xaa;
 
@@ -86,10 +86,10 @@ fn pool_into(desk: Desk, place: u32, lent: &mut [u32])
 fn pool(desk: Desk, place: u32, length: usize) -> bool
     requires { ⌜ SoundDesk desk ⌝ }
 {
-    if NUMBERS < length {
+    if LENT_NUMBERS < length {
         return false;
     }
-    let mut numbers = [NUMBER; NUMBERS];
+    let mut numbers = [NUMBER; LENT_NUMBERS];
     pool_into(desk, place, &mut numbers[..length]);
     true
 }
@@ -104,10 +104,10 @@ fn write_into(desk: Desk, lent: &mut [u8])
 fn write(desk: Desk, length: usize) -> bool
     requires { ⌜ SoundDesk desk ⌝ }
 {
-    if BYTES < length {
+    if LENT_BYTES < length {
         return false;
     }
-    let mut bytes = [BYTE; BYTES];
+    let mut bytes = [BYTE; LENT_BYTES];
     write_into(desk, &mut bytes[..length]);
     true
 }

@@ -6,6 +6,7 @@ use desk::Ack;
 use desk::Desk;
 use libc::STDIN_FILENO;
 use measures::SignedFraction;
+use pooling::NUMBERS;
 use print::INPUT;
 use print::labelled;
 use print::number;
@@ -13,9 +14,6 @@ use print::signed;
 use print::text;
 use refusals::BOOK_LENGTH;
 use table::GRADES;
-
-// What pool writes a grade: block defaults, block obligors, band.
-const NUMBERS: usize = 3;
 
 fn refused(n: u32) {
     labelled(b"refused ", n as u64);
