@@ -22,6 +22,7 @@ use cutoff::Verdict;
 use measures::Measures;
 use measures::UnsignedFraction;
 pub use pair::compare;
+use pooling::NUMBERS;
 use refusals::HIGH_PRICE;
 use refusals::NO_DEFAULTS;
 use refusals::NO_SURVIVORS;
@@ -108,7 +109,7 @@ pub fn pool(place: &[u32], out: &mut [u32]) -> u32
     if !is_loaded(place) {
         return PLACE_EMPTY;
     }
-    if out.len() < 3 * grades_of(place) {
+    if out.len() < NUMBERS * grades_of(place) {
         return SHORT_BUFFER;
     }
     pooling::pool(place, out);
