@@ -8,6 +8,7 @@ ghost use Rattle.table.specs.Counts.{largest};
 ghost use Rattle.pooling.specs.Pool.{blockWords, blockAt, join, pool, rateBelow};
 ghost use Rattle.pooling.specs.Band.{bandLimit, bandOf};
 ghost use Rattle.pooling.specs.Numbers.{gradesOf, pooledInto};
+ghost use Rattle.pooling.specs.Claims.{Claims};
 use table::DEFAULTS;
 use table::PPM;
 use table::grades_of;
@@ -170,3 +171,8 @@ pub fn pool(place: &[u32], out: &mut [u32])
         end -= 3 * (x.grades as usize);
     }
 }
+
+// What is claimed of pooling: the function does nothing, its contract is all claims of this crate.
+pub fn claims()
+    ensures { λ _. ⌜ Claims ⌝ }
+{}
