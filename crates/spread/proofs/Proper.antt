@@ -1,6 +1,6 @@
 -- The fractions that the spread is compared with are proper.
 use Prim.Native.Nat.{ℕ, _*_, _^_, _≤_}
-use mathlib.Core.List.{List, [], _∷_, map}
+use mathlib.Core.List.{List, [], _∷_}
 use native.Mathlib.Nat.{mul-pos}
 use native.Mathlib.Omega.{arith}
 use lib.ListN.{length}

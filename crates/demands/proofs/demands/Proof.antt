@@ -1,7 +1,7 @@
 -- The demands: `demands` has nothing to do but to show each of them.
 use Rattle.book.proofs.Claims as book
 use Rattle.cutoff.proofs.Claims as cutoff
-use Rattle.measures.proofs.Claims as measures
+use Rattle.measures.proofs.Claimed as measures
 use Rattle.demands.proofs.History.{places-hold, tables-sound, desk-sound}
 use Rattle.demands.proofs.Faults.{answered}
 use Rattle.demands.proofs.Kept.{refused-kept, written-only, others-kept}
@@ -23,12 +23,12 @@ returns c = record {
   written-books-load-back = loads-back;
   loaded-books-write-back = writes-back;
   measures-are-published = (
-    measures.RocIsTheArea,
-    measures.CapIsTheArea,
-    measures.GiniIsTheDifferenceOfProbabilities,
-    measures.GiniIsTheRatioOfAreas,
-    measures.PietraIsTheLargestDistance,
-    measures.BrierIsTheMeanSquaredDifference,
+    measures.claimed .roc-is-the-area,
+    measures.claimed .cap-is-the-area,
+    measures.claimed .gini-is-the-difference-of-probabilities,
+    measures.claimed .gini-is-the-ratio-of-areas,
+    measures.claimed .pietra-is-the-largest-distance,
+    measures.claimed .brier-is-the-mean-squared-difference,
   );
   measured-tables-are-mixed = measured-mixed;
   pool-writes-the-regression = regression-written;
