@@ -111,13 +111,21 @@ those-defaulted : (g : ℕ) (t : Table) → those (λ o. o .defaulted) (obligors
 unfolding obligorsFrom defaultedFrom those
 those-defaulted g [] = refl
 those-defaulted g (r ∷ t) =
-    rw (those-pass _ (r .defaults) (bad g) _ refl, those-fail (λ o. o .defaulted) (survivors r) (good g) (obligorsFrom (suc g) t) refl, those-defaulted (suc g) t)
+    rw (
+      those-pass _ (r .defaults) (bad g) _ refl,
+      those-fail _ (survivors r) (good g) (obligorsFrom (suc g) t) refl,
+      those-defaulted (suc g) t,
+    )
 
 those-survived : (g : ℕ) (t : Table) → those (λ o. not (o .defaulted)) (obligorsFrom g t) ≡ survivedFrom g t
 unfolding obligorsFrom survivedFrom those
 those-survived g [] = refl
 those-survived g (r ∷ t) =
-    rw (those-fail _ (r .defaults) (bad g) _ refl, those-pass _ (survivors r) (good g) (obligorsFrom (suc g) t) refl, those-survived (suc g) t)
+    rw (
+      those-fail _ (r .defaults) (bad g) _ refl,
+      those-pass _ (survivors r) (good g) (obligorsFrom (suc g) t) refl,
+      those-survived (suc g) t,
+    )
 
 -- Survivors of worse grades, against one test; and pairs of survivors of one grade with the defaults of worse ones.
 

@@ -9,12 +9,13 @@ use lib.ListN.{getD, replicate}
 use Rattle.table.specs.Table.{Table, Grade, Every, survivors}
 use Rattle.table.specs.Place.{blank}
 use Rattle.table.proofs.Every.{every-append, every-replicate}
-use Rattle.measures.specs.Pairs.{those, number, Obligor, obligorsFrom, obligorsOf, InGradeOrder}
+use Rattle.measures.specs.Pairs.{those, number, Obligor, obligorsFrom, obligorsOf, InGradeOrder, IsListOf}
 use Rattle.measures.proofs.Counted.{one, bad, good, number-append, number-replicate, passes, unlike}
 
 -- In grade order.
 
-order-replicate : (k : ℕ) (o : Obligor) (l : List Obligor) → Every (λ later. o .grade ≤ later .grade) l → InGradeOrder l → InGradeOrder (replicate k o ++ l)
+order-replicate : (k : ℕ) (o : Obligor) (l : List Obligor) → Every (λ later. o .grade ≤ later .grade) l → InGradeOrder l
+    → InGradeOrder (replicate k o ++ l)
 unfolding InGradeOrder
 order-replicate zero o l h order = order
 order-replicate (suc k) o l h order = (
@@ -26,8 +27,9 @@ from : (a g : ℕ) (t : Table) → a ≤ g → Every (λ o. a ≤ o .grade) (obl
 unfolding obligorsFrom
 from a g [] h = tt
 from a g (r ∷ t) h =
+    let s = survivors r in
     every-append (λ o. a ≤ o .grade) (replicate (r .defaults) (bad g)) _ (every-replicate _ (r .defaults) (bad g) h)
-    (every-append _ (replicate (survivors r) (good g)) (obligorsFrom (suc g) t) (every-replicate _ (survivors r) (good g) h) (from a (suc g) t (omega arith)))
+    (every-append _ (replicate s (good g)) (obligorsFrom (suc g) t) (every-replicate _ s (good g) h) (from a (suc g) t (omega arith)))
 
 in-order : (g : ℕ) (t : Table) → InGradeOrder (obligorsFrom g t)
 unfolding obligorsFrom InGradeOrder
@@ -82,12 +84,9 @@ module _ (outcome : Bool → Bool) (j : ℕ) where
         listed (suc g) i t (omega arith),
       )
 
-pub obligors-are-listed : (t : Table)
-    → InGradeOrder (obligorsOf t)
-    × ((g : ℕ)
-    → (number (λ o. eqb (o .grade) g && o .defaulted) (obligorsOf t) ≡ getD t g blank .defaults)
-    × (number (λ o. eqb (o .grade) g && not (o .defaulted)) (obligorsOf t) ≡ survivors (getD t g blank)))
-obligors-are-listed t = (
-  in-order 0 t,
-  λ g. (omega (arith, listed (λ b. b) g 0 g t (omega arith)), omega (arith, listed not g 0 g t (omega arith))),
-)
+pub obligors-are-listed : (t : Table) → IsListOf t (obligorsOf t)
+obligors-are-listed t = record {
+  ordered = in-order 0 t;
+  defaulted = λ g. omega (arith, listed (λ b. b) g 0 g t (omega arith));
+  survived = λ g. omega (arith, listed not g 0 g t (omega arith));
+}

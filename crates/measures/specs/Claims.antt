@@ -2,14 +2,12 @@
 -- where a claim is not proved.
 use Prim.Native.Nat.{ℕ, _+_, _≤_, _<_}
 use mathlib.Core.Path.{_≡_}
-use mathlib.Core.Bool.{Bool, not, _&&_}
-use lib.Dec.{eqb}
-use lib.ListN.{length, getD}
+use mathlib.Core.Bool.{Bool}
+use lib.ListN.{length}
 use lib.Signed.{_<ℤ_}
-use Rattle.table.specs.Table.{Table, Every, Counted, Rated, survivors, defaultsIn, survivorsIn, obligorsIn}
-use Rattle.table.specs.Place.{blank}
+use Rattle.table.specs.Table.{Table, Every, Counted, Rated, defaultsIn, survivorsIn, obligorsIn}
 use Rattle.pooling.specs.Fraction.{Proper, AtMost, Equal, ratio, sum, difference, product}
-use Rattle.measures.specs.Pairs.{number, obligorsOf, InGradeOrder, Pair, pairsAmong, isConcordant, isDiscordant, isTied}
+use Rattle.measures.specs.Pairs.{number, obligorsOf, IsListOf, Pair, pairsAmong, isConcordant, isDiscordant, isTied}
 use Rattle.measures.specs.Pairs.{concordant, discordant, tied}
 use Rattle.measures.specs.Measures.{pairs, height, pietraAt, measuresOf}
 use Rattle.measures.specs.Brier.{brierOf}
@@ -21,14 +19,9 @@ pub record Mixed (t : Table) : Type 0 where
   pub defaulted : 1 ≤ defaultsIn t
   pub survived : 1 ≤ survivorsIn t
 
--- The obligors of a table are listed in grade order, of each grade as many who defaulted and as many who survived as the table has.
+-- The pairs below are made of all obligors of a table, in grade order.
 abbrev pub ObligorsAreListed : Type 0
-ObligorsAreListed =
-    (t : Table)
-    → InGradeOrder (obligorsOf t)
-    × ((g : ℕ)
-    → (number (λ o. eqb (o .grade) g && o .defaulted) (obligorsOf t) ≡ getD t g blank .defaults)
-    × (number (λ o. eqb (o .grade) g && not (o .defaulted)) (obligorsOf t) ≡ survivors (getD t g blank)))
+ObligorsAreListed = (t : Table) → IsListOf t (obligorsOf t)
 
 -- "Pairs are one defaulted with one surviving obligor. C counts pairs with the defaulted one in the worse grade, X in the better, T in the
 -- same": of the list of all pairs among all obligors, which has D S of them.

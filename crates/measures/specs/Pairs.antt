@@ -1,10 +1,12 @@
 -- Pairs of one defaulted with one surviving obligor, by which of the two is in the worse grade.
 use Prim.Native.Nat.{ℕ, suc, _+_, _*_, _≤_}
-use mathlib.Core.Bool.{Bool, true, false, not, cond}
+use mathlib.Core.Path.{_≡_}
+use mathlib.Core.Bool.{Bool, true, false, not, cond, _&&_}
 use mathlib.Core.List.{List, [], _∷_, _++_, map, flatMap}
 use lib.Dec.{ltb, eqb}
-use lib.ListN.{length, replicate}
+use lib.ListN.{length, getD, replicate}
 use Rattle.table.specs.Table.{Table, Every, survivors, defaultsIn, survivorsIn}
+use Rattle.table.specs.Place.{blank}
 
 -- Those elements of a list that pass a test, and their number.
 
@@ -35,6 +37,12 @@ obligorsOf t = obligorsFrom 0 t
 unfoldable pub InGradeOrder : List Obligor → Type 0
 InGradeOrder [] = Unit {0}
 InGradeOrder (o ∷ l) = Every (λ later. o .grade ≤ later .grade) l × InGradeOrder l
+
+-- What such a list is: in grade order, with as many of each grade who defaulted, and who survived, as the table has.
+pub record IsListOf (t : Table) (l : List Obligor) : Type 0 where
+  pub ordered : InGradeOrder l
+  pub defaulted : (g : ℕ) → number (λ o. eqb (o .grade) g && o .defaulted) l ≡ getD t g blank .defaults
+  pub survived : (g : ℕ) → number (λ o. eqb (o .grade) g && not (o .defaulted)) l ≡ survivors (getD t g blank)
 
 pub record Pair : Type 0 where
   pub defaulted : Obligor
