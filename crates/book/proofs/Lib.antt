@@ -1,5 +1,6 @@
 pub mod Checks
 pub mod Rows
+pub mod Columns
 pub mod Stands
 pub mod Faultless
 pub mod Accept

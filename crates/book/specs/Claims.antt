@@ -1,15 +1,15 @@
 -- What is claimed of books beyond the contracts. The contract of `claims` in src/lib.rt is all of it, so that the crate is refused where a
 -- claim is not proved.
-use Prim.Native.Nat.{ℕ, _-_, _≤_}
+use Prim.Native.Nat.{ℕ, _+_, _-_, _*_, _≤_, _<_}
 use mathlib.Core.Path.{_≡_}
 use mathlib.Core.Bool.{true}
 use mathlib.Core.List.{List, []}
 use lib.ListN.{length, getD, take}
 use Rattle.table.specs.declared.Place.{Place}
-use Rattle.table.specs.Table.{Every, Sound}
+use Rattle.table.specs.Table.{Every, Sound, survivors}
 use Rattle.table.specs.Place.{gradeAt, tableOf, blank, placeOf}
-use Rattle.book.specs.Bytes.{Byte}
-use Rattle.book.specs.Layout.{raters, startOf, kindAt, layoutFault}
+use Rattle.book.specs.Bytes.{Byte, fourAt}
+use Rattle.book.specs.Layout.{raters, startOf, gradesAt, kindAt, layoutFault}
 use Rattle.book.specs.Rows.{tableOfRater, tablesIn}
 use Rattle.book.specs.Reading.{readFault}
 use Rattle.book.specs.Encode.{encode}
@@ -26,6 +26,13 @@ pub record Accepted (b : List ℕ) (j : ℕ) (p : Place) : Type 0 where
 -- The table in a place is that of the rater loaded there, as it stands in the book; it is as "A grade table" says, and nothing stands behind it.
 abbrev pub ReadingIsSound : Type 0
 ReadingIsSound = (b : List ℕ) (j : ℕ) → readFault b j ≡ 0 → Accepted b j (placeOf (tableOfRater b j))
+
+-- "Kind of first column (0 obligors, 1 survivors)": so many obligors, or so many survivors, has grade i.
+abbrev pub FirstColumnIsOfItsKind : Type 0
+FirstColumnIsOfItsKind =
+    (b : List ℕ) (j i : ℕ) → i < gradesAt b (startOf b j)
+    → (kindAt b (startOf b j) ≡ 0 → getD (tableOfRater b j) i blank .obligors ≡ fourAt b (startOf b j + 4 + 12 * i))
+    × (kindAt b (startOf b j) ≡ 1 → survivors (getD (tableOfRater b j) i blank) ≡ fourAt b (startOf b j + 4 + 12 * i))
 
 -- Loading rater j of a written book finds no fault, and gives the j-th of the loaded tables.
 abbrev pub WrittenBookReadsBack : Type 0
@@ -46,5 +53,6 @@ ReadBookWritesBack =
 -- All of them: what the function `claims` of this crate promises.
 pub record Claims : Type 0 where
   pub reading-is-sound : ReadingIsSound
+  pub first-column-is-of-its-kind : FirstColumnIsOfItsKind
   pub written-book-reads-back : WrittenBookReadsBack
   pub read-book-writes-back : ReadBookWritesBack

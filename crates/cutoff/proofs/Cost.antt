@@ -62,7 +62,9 @@ dearer u v t₁ t₂ h c₁ c₂ p₁ p₂ = omega (arith, is-cheapest t₁ u v 
 -- Turning every grade away costs all survivors.
 cost-all : (t : Table) (u v : ℕ) → cost t u v (length t) ≡ v * survivorsIn t
 unfolding cost turnedAway
-cost-all t u v = rw (sub-self (length t), sub-self, mul-zero) (omega arith)
+cost-all t u v =
+    let away : turnedAway t (length t) ≡ t = ap (λ k. drop k t) (sub-self (length t)) in
+    rw (away, sub-self, mul-zero) (omega arith)
 
 pub cost-le-all : (t : Table) (u v : ℕ) → cheapestCost t u v ≤ v * survivorsIn t
 cost-le-all t u v = omega (arith, cost-all t u v, cheapest-is t u v .least (length t) (omega arith))

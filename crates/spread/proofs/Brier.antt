@@ -1,4 +1,4 @@
--- The Brier sum of the pooled rates is the exact residual sum: a run of D defaults and S survivors among N obligors has, at the rate D/N,
+-- The Brier sum of one rate for all grades is the exact total, that of the pooled rates the exact residual sum: a run of D defaults and S survivors among N obligors has, at the rate D/N,
 -- D (1 - D/N)² + S (D/N)² = D S / N.
 use Prim.Native.Nat.{ℕ, _+_, _-_, _*_, _≤_}
 use mathlib.Core.Path.{_≡_, refl, sym}
@@ -17,7 +17,7 @@ use Rattle.pooling.specs.Regression.{rateOf, ratesIn, pooledRates}
 use Rattle.pooling.proofs.Front.{AtMostRate}
 use Rattle.pooling.proofs.Runs.{Cut, none, more, pool-cut}
 use Rattle.pooling.proofs.Scaled.{Over, over-nought, over-ratio, over-own, over-same, over-sum, over-difference, over-times, over-square, equal}
-use Rattle.spread.specs.Spread.{residualOf, residualSum}
+use Rattle.spread.specs.Spread.{totalOf, residualOf, residualSum}
 use Rattle.spread.specs.Brier.{brierOfRate, brierSumOfRates}
 use Rattle.spread.proofs.Fractions.{sum-assoc, sum-nought, sum-equal}
 
@@ -60,6 +60,13 @@ brier-run t h =
     let block = over-ratio {m = n * n} {a = d * s * n} (d * s) n (omega arith) in
     let run = rw left at (brier-level n d (omega arith) t) in
     rw left (equal block run (mul-pos (h .1) (h .1)) (omega (arith, times-eq (d * s) all)))
+
+-- The whole table as one run.
+pub total-brier : (t : Table) → Every Counted t → 1 ≤ obligorsIn t
+    → Equal (totalOf t) (brierSumOfRates t (replicate (length t) (ratio (defaultsIn t) (obligorsIn t))))
+total-brier t c some =
+    let left : obligorsIn t - defaultsIn t ≡ survivorsIn t = omega (arith, obligors-split t c) in
+    rw left at (brier-run t (c, some))
 
 -- The runs of a table.
 

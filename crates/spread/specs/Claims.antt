@@ -1,16 +1,22 @@
 -- What is proved of the spread, beside the contracts. The contract of `claims` in src/lib.rt is all of it, so that the crate is refused
 -- where a claim is not proved.
-use Prim.Native.Nat.{ℕ, _*_, _^_, _≤_}
+use Prim.Native.Nat.{ℕ, _^_, _≤_}
 use mathlib.Core.List.{List}
-use lib.ListN.{length}
+use lib.ListN.{length, replicate}
 use lib.Ieee.{Float}
-use Rattle.table.specs.Table.{Table, Every, Occupied, Counted, defaultsIn, survivorsIn, obligorsIn}
+use Rattle.table.specs.Table.{Table, Every, Occupied, Counted, defaultsIn, obligorsIn}
 use Rattle.pooling.specs.Pool.{pool}
 use Rattle.pooling.specs.Fraction.{Fraction, Proper, Equal, ratio}
 use Rattle.pooling.specs.Regression.{pooledRates}
 use Rattle.spread.specs.Near.{valueOf}
-use Rattle.spread.specs.Spread.{residualSum}
+use Rattle.spread.specs.Spread.{totalOf, residualSum}
 use Rattle.spread.specs.Brier.{brierSumOfRates}
+
+-- DS/N is the Brier sum of one rate for all grades, that of the whole table.
+abbrev pub TotalIsTheBrierSumOfTheOneRate : Type 0
+TotalIsTheBrierSumOfTheOneRate =
+    (t : Table) → Every Counted t → 1 ≤ obligorsIn t
+    → Equal (totalOf t) (brierSumOfRates t (replicate (length t) (ratio (defaultsIn t) (obligorsIn t))))
 
 -- The exact residual sum over blocks is the Brier sum of the pooled rates.
 abbrev pub ResidualIsTheBrierSumOfThePooledRates : Type 0
@@ -21,7 +27,7 @@ ResidualIsTheBrierSumOfThePooledRates =
 abbrev pub SumsAreProper : Type 0
 SumsAreProper =
     (t : Table) → Every Occupied t
-    → (1 ≤ length t → Proper (ratio (defaultsIn t * survivorsIn t) (obligorsIn t)))
+    → (1 ≤ length t → Proper (totalOf t))
     × Proper (residualSum (pool t))
     × ((q : List Fraction) → Every Proper q → Proper (brierSumOfRates t q))
 
@@ -31,6 +37,7 @@ FloatsAreProper = (x : Float) (k : ℕ) → Proper (valueOf x) × Proper (ratio 
 
 -- All of them: what the function `claims` of this crate promises.
 pub record Claims : Type 0 where
+  pub total-is-the-brier-sum-of-the-one-rate : TotalIsTheBrierSumOfTheOneRate
   pub residual-is-the-brier-sum-of-the-pooled-rates : ResidualIsTheBrierSumOfThePooledRates
   pub sums-are-proper : SumsAreProper
   pub floats-are-proper : FloatsAreProper

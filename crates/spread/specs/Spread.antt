@@ -8,6 +8,10 @@ use Rattle.pooling.specs.Fraction.{Fraction, nought, ratio, sum}
 use Rattle.spread.specs.declared.Spread.{Spread}
 use Rattle.spread.specs.Near.{Within}
 
+-- DS/N
+abbrev pub totalOf : Table → Fraction
+totalOf t = ratio (defaultsIn t * survivorsIn t) (obligorsIn t)
+
 -- block defaults times block survivors over block obligors
 abbrev pub residualOf : Block → Fraction
 residualOf b = ratio (b .defaults * (b .obligors - b .defaults)) (b .obligors)
@@ -20,5 +24,5 @@ residualSum (b ∷ bs) = sum (residualOf b) (residualSum bs)
 -- The spread of a table. The two floats are limited and not given, because document 01 leaves them open: "The price pairs and the two
 -- floats alone are freer, bound as above".
 pub record IsSpread (t : Table) (r : Spread) : Type 0 where
-  pub total : Within (r .total) (ratio (defaultsIn t * survivorsIn t) (obligorsIn t)) 36
+  pub total : Within (r .total) (totalOf t) 36
   pub residual : Within (r .residual) (residualSum (pool t)) 29

@@ -1,5 +1,6 @@
 -- The claims: `claims` has nothing to do but to show each of them.
 use Rattle.book.proofs.Accept.{accepted}
+use Rattle.book.proofs.Columns.{first-column}
 use Rattle.book.proofs.RoundTrip.{round-trip}
 use Rattle.book.proofs.Again.{written-again}
 use Rattle.book.proofs.claims.Statement.{statement}
@@ -8,6 +9,7 @@ use Rattle.book.proofs.claims.Tie as tie
 returns : tie.Need-returns
 returns c = record {
   reading-is-sound = accepted;
+  first-column-is-of-its-kind = first-column;
   written-book-reads-back = round-trip;
   read-book-writes-back = written-again;
 }
