@@ -18,7 +18,7 @@ use Rattle.cutoff.specs.declared.Verdict.{Verdict}
 use Rattle.cutoff.specs.Claims as cutoff
 use Rattle.measures.specs.Claims as measuring
 use Rattle.calls.specs.Answers.{Answer, accepted, refused}
-use Rattle.calls.specs.Calls.{measures, pool}
+use Rattle.calls.specs.Calls.{Question, measures, pool}
 use Rattle.desk.specs.declared.Desk.{Desk}
 use Rattle.desk.specs.Desk.{tableAt, SoundDesk}
 use Rattle.desk.specs.Calls.{Call, ask, fill, write, numberOf, after, lent, lentAfter, lentSize, loadedTables, Compares}
@@ -49,6 +49,10 @@ OneOf n (m ∷ l) = (n ≡ m) ⊎ OneOf n l
 -- "Every input to any entry point ends in a result or one of its refusal numbers."
 abbrev pub EveryCallIsAnswered : Type 0
 EveryCallIsAnswered = (d : Desk) (c : Call) → (numberOf d c ≡ 0) ⊎ OneOf (numberOf d c) (numbers c)
+
+-- "22: place empty": an accepted question is of a table, and of one as document 01 says.
+abbrev pub QuestionsAreOfTables : Type 0
+QuestionsAreOfTables = (d : Desk) → SoundDesk d → (i : ℕ) (q : Question) → numberOf d (ask i q) ≡ 0 → Sound (tableAt d i)
 
 -- "A refusal leaves every buffer and the desk as they were."
 abbrev pub RefusalsChangeNothing : Type 0
@@ -137,6 +141,7 @@ pub record Demands : Type 0 where
   pub places-hold-what-was-loaded : PlacesHoldWhatWasLoaded
   pub every-held-table-is-sound : EveryHeldTableIsSound
   pub every-call-is-answered : EveryCallIsAnswered
+  pub questions-are-of-tables : QuestionsAreOfTables
   pub refusals-change-nothing : RefusalsChangeNothing
   pub only-what-is-written-changes : OnlyWhatIsWrittenChanges
   pub other-places-are-kept : OtherPlacesAreKept

@@ -5,6 +5,7 @@ use Rattle.book.proofs.Again.{written-again}
 use Rattle.cutoff.proofs.Cost.{cheapest-is, cheapest-unique}
 use Rattle.cutoff.proofs.Pooled.{pooled-costs-same}
 use Rattle.measures.proofs.Claimed as measures
+use Rattle.desk.proofs.Asked.{asked-sound}
 use Rattle.demands.proofs.History.{places-hold, tables-sound, desk-sound}
 use Rattle.demands.proofs.Faults.{answered}
 use Rattle.demands.proofs.Kept.{refused-kept, written-only, others-kept}
@@ -19,6 +20,7 @@ returns c = record {
   places-hold-what-was-loaded = places-hold;
   every-held-table-is-sound = tables-sound;
   every-call-is-answered = answered;
+  questions-are-of-tables = asked-sound;
   refusals-change-nothing = refused-kept;
   only-what-is-written-changes = written-only;
   other-places-are-kept = others-kept;
