@@ -57,7 +57,12 @@ pub dearer : (u v : ℕ) (t₁ t₂ : Table) → cheapestCost t₂ u v < cheapes
     → (c₁ c₂ : ℕ) → IsCheapest t₁ u v c₁ → IsCheapest t₂ u v c₂ → c₂ < c₁
 dearer u v t₁ t₂ h c₁ c₂ p₁ p₂ = omega (arith, is-cheapest t₁ u v c₁ .0 p₁, is-cheapest t₂ u v c₂ .0 p₂)
 
--- What single cutoffs cost.
+-- What single cutoffs turn away and cost.
+
+-- A cutoff that accepts the first grade turns away what it turns away of the rest.
+away-rest : (r : Grade) (t : Table) (g : ℕ) → g ≤ length t → turnedAway (r ∷ t) g ≡ turnedAway t g
+unfolding turnedAway
+away-rest r t g h = let k : suc (length t) - g ≡ suc (length t - g) = omega arith in ap (λ n. drop n (r ∷ t)) k
 
 -- Turning every grade away costs all survivors.
 cost-all : (t : Table) (u v : ℕ) → cost t u v (length t) ≡ v * survivorsIn t
@@ -80,9 +85,7 @@ drop-le (r ∷ t) (suc k) = omega (arith, drop-le t k)
 cost-rest : (r : Grade) (t : Table) (u v g : ℕ) → g ≤ length t → cost (r ∷ t) u v g ≡ u * r .defaults + cost t u v g
 unfolding cost turnedAway defaultsIn
 cost-rest r t u v g h =
-    let n : ℕ = length t - g in
-    let k : suc (length t) - g ≡ suc n = omega arith in
-    rw (k, add-sub-assoc (drop-le t n .0) (r .defaults), mul-add) (omega arith)
+    rw (away-rest r t g h, add-sub-assoc (drop-le t (length t - g) .0) (r .defaults), mul-add) (omega arith)
 
 -- One more grade in front.
 
