@@ -9,7 +9,9 @@ ghost use Rattle.pooling.specs.Pool.{join, pool, rateBelow};
 ghost use Rattle.pooling.specs.Private.{blockWords, blockAt};
 ghost use Rattle.pooling.specs.Band.{bandLimit, bandOf};
 ghost use Rattle.pooling.specs.Numbers.{gradesOf, pooledInto};
+ghost use Rattle.pooling.specs.Claims.{Claims};
 use table::DEFAULTS;
+use table::PPM;
 use table::grades_of;
 
 // A run of neighbouring grades: how many, their obligors and their defaults.
@@ -67,7 +69,7 @@ impl Block {
         requires { ⌜ (bandOf self ≤ most) × (most ≤ 14) ⌝ }
         ensures { λ r. ⌜ r ≡ bandOf self ⌝ }
     {
-        let rate = (self.defaults as u64) * 1_000_000;
+        let rate = (self.defaults as u64) * (PPM as u64);
         let mut b = most;
         while 0 < b {
             if band_limit(b - 1) * (self.obligors as u64) < rate {
@@ -170,3 +172,8 @@ pub fn pool(place: &[u32], out: &mut [u32])
         end -= 3 * (x.grades as usize);
     }
 }
+
+// What is claimed of pooling: the function does nothing, its contract is all claims of this crate.
+pub fn claims()
+    ensures { λ _. ⌜ Claims ⌝ }
+{}

@@ -4,7 +4,7 @@ use Rattle.book.proofs.RoundTrip.{round-trip}
 use Rattle.book.proofs.Again.{written-again}
 use Rattle.cutoff.proofs.Cost.{cheapest-is, cheapest-unique}
 use Rattle.cutoff.proofs.Pooled.{pooled-costs-same}
-use Rattle.measures.proofs.Claims as measures
+use Rattle.measures.proofs.Claimed as measures
 use Rattle.demands.proofs.History.{places-hold, tables-sound, desk-sound}
 use Rattle.demands.proofs.Faults.{answered}
 use Rattle.demands.proofs.Kept.{refused-kept, written-only, others-kept}
@@ -26,12 +26,12 @@ returns c = record {
   written-books-load-back = loads-back;
   loaded-books-write-back = writes-back;
   measures-are-published = (
-    measures.RocIsTheArea,
-    measures.CapIsTheArea,
-    measures.GiniIsTheDifferenceOfProbabilities,
-    measures.GiniIsTheRatioOfAreas,
-    measures.PietraIsTheLargestDistance,
-    measures.BrierIsTheMeanSquaredDifference,
+    measures.claimed .roc-is-the-area,
+    measures.claimed .cap-is-the-area,
+    measures.claimed .gini-is-the-difference-of-probabilities,
+    measures.claimed .gini-is-the-ratio-of-areas,
+    measures.claimed .pietra-is-the-largest-distance,
+    measures.claimed .brier-is-the-mean-squared-difference,
   );
   measured-tables-are-mixed = measured-mixed;
   pool-writes-the-regression = regression-written;
