@@ -3,8 +3,8 @@ use mathlib.Core.Bool.{not}
 use lib.Dec.{T}
 use lib.Ieee.{isNan}
 use Rattle.spread.specs.declared.Spread.{Spread}
-use Rattle.desk.specs.declared.SpreadAnswer.{SpreadAnswer}
-use Rattle.desk.specs.declared.SpreadAnswer.the-variants as spread
+use Rattle.calls.specs.declared.SpreadAnswer.{SpreadAnswer}
+use Rattle.calls.specs.declared.SpreadAnswer.the-variants as spread
 
 pub record Numbers (s : Spread) : Type 0 where
   pub total : T (not (isNan (s .total)))

@@ -1,18 +1,18 @@
 // The line of each answer, without its line feed.
 ghost use Rattle.answers.specs.Answers.{Numbers, Plain};
-use book::Ack;
 use book::Written;
+use calls::BrierAnswer;
+use calls::CheapestAnswer;
+use calls::CompareAnswer;
+use calls::MeasuresAnswer;
+use calls::SpreadAnswer;
 use cutoff::Price;
 use cutoff::Verdict;
-use desk::BrierAnswer;
-use desk::CheapestAnswer;
-use desk::CompareAnswer;
-use desk::MeasuresAnswer;
-use desk::SpreadAnswer;
+use desk::Ack;
 use libc::STDOUT_FILENO;
-use measures::Fraction;
 use measures::Measures;
 use measures::SignedFraction;
+use measures::UnsignedFraction;
 use print::text;
 use spread::Spread;
 
@@ -98,7 +98,7 @@ pub fn compare(a: CompareAnswer) {
     }
 }
 
-fn fraction(f: Fraction) {
+fn fraction(f: UnsignedFraction) {
     wide_number(f.numerator);
     wide_number(f.denominator);
 }

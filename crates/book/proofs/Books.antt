@@ -14,9 +14,10 @@ use Rattle.table.proofs.Suffix.{length-grades}
 use Rattle.table.proofs.Words.{few-grades, long-words}
 use Rattle.book.specs.declared.Written.{Written}
 use Rattle.book.specs.declared.Written.the-variants.{Length, Refused}
-use Rattle.book.specs.Bytes.{twoBytes, fourBytes, stored}
-use Rattle.book.specs.Encode.{encodeGrade, encodeGrades, encodeTable, encodeHead, encodeTables, offsets, endsAt, sizeOf, bookSize, encode}
-use Rattle.book.specs.Writing.{Writable, writeFault, lengthOr, bufferOr, writeAnswer, bufferAfter, tablesOf}
+use Rattle.book.specs.Bytes.{twoBytes, fourBytes}
+use Rattle.book.specs.Private.{stored, encodeHead, Writable}
+use Rattle.book.specs.Encode.{encodeGrade, encodeGrades, encodeTable, encodeTables, offsets, endsAt, sizeOf, bookSize, encode}
+use Rattle.book.specs.Writing.{writeFault, lengthOr, bufferOr, writeAnswer, bufferAfter, tablesOf}
 use Rattle.book.proofs.Checks.{found, none, pass, over}
 use Rattle.book.proofs.Stored.{stored-two, stored-three, stored-all}
 

@@ -9,7 +9,7 @@ use Rattle.table.specs.Table.{Table, Grade}
 use Rattle.table.specs.Place.{fresh, column, placeOf}
 use Rattle.table.specs.Words.{wordsOf}
 use Rattle.table.proofs.Placed.{length-column}
-use Rattle.book.specs.Bytes.{stored}
+use Rattle.book.specs.Private.{stored}
 
 -- Columns.
 

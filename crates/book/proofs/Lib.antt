@@ -9,4 +9,3 @@ pub mod Books
 pub mod Back
 pub mod RoundTrip
 pub mod Again
-pub mod Claims

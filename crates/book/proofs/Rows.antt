@@ -12,7 +12,7 @@ use Rattle.table.specs.Table.{Table, Grade, obligorsIn}
 use Rattle.table.specs.Counts.{largest, capped}
 use Rattle.book.specs.Checks.{fault}
 use Rattle.book.specs.Rows.{gradeIn, gradesIn, rowChecks, rowsFault, totalChecks, tableFault}
-use Rattle.book.specs.Reading.{cappedGrade}
+use Rattle.book.specs.Private.{cappedGrade}
 use Rattle.book.proofs.Checks.{first-none, first-some}
 
 -- Rows read, and rows to come.

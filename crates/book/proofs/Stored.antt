@@ -6,7 +6,7 @@ use native.Mathlib.Nat.{add-zero, zero-add}
 use native.Mathlib.Omega.{arith}
 use lib.ListN.{length, drop, set}
 use lib.Seq.{length-sets, sets-eq}
-use Rattle.book.specs.Bytes.{stored}
+use Rattle.book.specs.Private.{stored}
 
 stored-append : (v w l : List ℕ) (at : ℕ) → stored (stored l at v) (at + length v) w ≡ stored l at (v ++ w)
 unfolding stored

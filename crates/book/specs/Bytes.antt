@@ -2,7 +2,6 @@
 use Prim.Native.Nat.{ℕ, _+_, _*_, _/_, _%_, _<_}
 use mathlib.Core.List.{List, [], _∷_, _++_}
 use lib.ListN.{getD}
-use lib.Seq.{sets}
 
 -- a number that one byte holds
 abbrev pub Byte : ℕ → Type 0
@@ -26,7 +25,3 @@ twoBytes n = n % 256 ∷ n / 256 % 256 ∷ []
 -- the 4 bytes of a number
 unfoldable pub fourBytes : ℕ → List ℕ
 fourBytes n = twoBytes (n % 65_536) ++ twoBytes (n / 65_536)
-
--- a list with the bytes v stored from `at` on
-unfoldable pub stored : List ℕ → ℕ → List ℕ → List ℕ
-stored b at v = sets b at v

@@ -1,4 +1,5 @@
--- What is claimed of books beyond the contracts.
+-- What is claimed of books beyond the contracts. The contract of `claims` in src/lib.rt is all of it, so that the crate is refused where a
+-- claim is not proved.
 use Prim.Native.Nat.{ℕ, _-_, _≤_}
 use mathlib.Core.Path.{_≡_}
 use mathlib.Core.Bool.{true}
@@ -41,3 +42,9 @@ ReadBookWritesBack =
     (b : List ℕ) → Every Byte b → layoutFault b ≡ 0
     → ((j : ℕ) → 1 ≤ j → j ≤ raters b → kindAt b (startOf b j) ≡ 0)
     → encode (tablesIn b 1 (raters b)) ≡ b
+
+-- All of them: what the function `claims` of this crate promises.
+pub record Claims : Type 0 where
+  pub reading-is-sound : ReadingIsSound
+  pub written-book-reads-back : WrittenBookReadsBack
+  pub read-book-writes-back : ReadBookWritesBack

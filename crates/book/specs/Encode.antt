@@ -36,9 +36,5 @@ endsAt at (t ∷ ts) = endsAt (at + sizeOf t) ts
 abbrev pub bookSize : List Table → ℕ
 bookSize ts = endsAt (4 + 2 * length ts) ts
 
--- the number of raters, the length, and where the first table starts
-unfoldable pub encodeHead : ℕ → ℕ → List ℕ
-encodeHead n size = twoBytes n ++ (twoBytes size ++ twoBytes (4 + 2 * n))
-
 unfoldable pub encode : List Table → List ℕ
 encode ts = twoBytes (length ts) ++ (twoBytes (bookSize ts) ++ (offsets (4 + 2 * length ts) ts ++ encodeTables ts))

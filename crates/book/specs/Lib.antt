@@ -5,4 +5,5 @@ pub mod Rows
 pub mod Reading
 pub mod Encode
 pub mod Writing
+pub mod Private
 pub mod Claims

@@ -1,22 +1,15 @@
 -- What writing a book answers, and the buffer after it.
-use Prim.Native.Nat.{ℕ, zero, suc, _≤_}
-use mathlib.Core.Path.{_≡_}
+use Prim.Native.Nat.{ℕ, zero, suc}
 use mathlib.Core.Bool.{cond}
 use mathlib.Core.List.{List, [], _∷_, _++_}
 use lib.ListN.{length, drop}
 use Rattle.table.specs.declared.Place.{Place}
 use Rattle.table.specs.Table.{Table}
 use Rattle.table.specs.Place.{tableOf}
-use Rattle.table.specs.Words.{placeSize, placeIn}
 use Rattle.book.specs.Checks.{at-most, fault}
 use Rattle.book.specs.Encode.{encode, bookSize}
 use Rattle.book.specs.declared.Written.{Written}
 use Rattle.book.specs.declared.Written.the-variants.{Length, Refused}
-
--- What a write requires of a lent place: every place that calls left is so.
-pub record Writable (w : List ℕ) : Type 0 where
-  pub long : length w ≡ placeSize
-  pub few : placeIn w .grades ≤ 40
 
 -- the table of a place, if it is loaded, before others
 abbrev pub loadedThen : Place → List Table → List Table
@@ -25,10 +18,6 @@ loadedThen p ts = cond (p .loaded) (tableOf p ∷ ts) ts
 -- the tables of the loaded places, 1 before 2
 abbrev pub tablesOf : Place → Place → List Table
 tablesOf p q = loadedThen p (loadedThen q [])
-
--- those of two lent places
-abbrev pub lentTables : List ℕ → List ℕ → List Table
-lentTables w v = tablesOf (placeIn w) (placeIn v)
 
 -- 22 if both places are empty, 13 if a buffer of n bytes is too short for the whole book
 unfoldable pub writeFault : List Table → ℕ → ℕ

@@ -2,7 +2,8 @@
 ghost use Prim.Native.Nat.{_+_, _≤_, _<_};
 ghost use mathlib.Core.Path.{_≡_};
 ghost use lib.ListN.{length};
-ghost use Rattle.book.specs.Bytes.{byteAt, twoAt, fourAt, twoBytes, fourBytes, stored};
+ghost use Rattle.book.specs.Bytes.{byteAt, twoAt, fourAt, twoBytes, fourBytes};
+ghost use Rattle.book.specs.Private.{stored};
 
 pub fn byte_at(b: &[u8], i: usize) -> usize
     requires { ⌜ i < length (now b) ⌝ }

@@ -1,4 +1,6 @@
 // The book of grade tables (document 01's "The book"): the table of a rater is read out of it, and tables are written as one.
+ghost use Rattle.book.specs.Claims.{Claims};
+
 mod bytes;
 mod layout;
 mod reader;
@@ -25,3 +27,8 @@ pub struct Row {
     // The announced default rate in ppm.
     pub announced: u32,
 }
+
+// What is claimed of books: the function does nothing, its contract is all claims of this crate.
+pub fn claims()
+    ensures { λ _. ⌜ Claims ⌝ }
+{}

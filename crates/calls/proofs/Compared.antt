@@ -14,7 +14,8 @@ use Rattle.book.proofs.Checks.{Finds, found, stop, go}
 use Rattle.cutoff.specs.declared.Verdict.{Verdict}
 use Rattle.calls.specs.declared.TotalsAnswer.{TotalsAnswer}
 use Rattle.calls.specs.declared.TotalsAnswer.the-variants.{Totals as Given, Refused}
-use Rattle.calls.specs.Answers.{Answer, accepted, refused, answer, Limited, SameRefusal, totalsSays}
+use Rattle.calls.specs.Answers.{Answer, accepted, refused, answer, Limited, totalsSays}
+use Rattle.calls.specs.Private.{SameRefusal}
 use Rattle.calls.specs.Calls.{emptyFault, compareFault, pairChecks}
 use Rattle.calls.proofs.Asked.{Ready}
 

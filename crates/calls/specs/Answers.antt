@@ -65,8 +65,3 @@ spreadSays (spread.Refused n) = refused n
 abbrev pub totalsSays : TotalsAnswer → Answer Totals
 totalsSays (totals.Totals t) = accepted t
 totalsSays (totals.Refused n) = refused n
-
--- where a is a refusal, r is the same one
-abbrev pub SameRefusal : {A B : Type 0} → Answer A → Answer B → Type 0
-SameRefusal (accepted x) r = Unit {0}
-SameRefusal (refused n) r = r ≡ refused n

@@ -1,13 +1,11 @@
 -- The calls on one place, by what they do: questions answer, fillings write a lent buffer, changes make another place of it. For each the
 -- checks behind that of the place's number, in document 01's order, and what it leaves. Compare asks two places.
 use Prim.Native.Nat.{ℕ, _*_}
-use mathlib.Core.Path.{_≡_}
-use mathlib.Core.Bool.{false, cond}
+use mathlib.Core.Bool.{cond}
 use mathlib.Core.List.{List, [], _∷_}
 use lib.ListN.{length}
 use Rattle.table.specs.Table.{Table, defaultsIn, survivorsIn}
 use Rattle.table.specs.Place.{fresh, tableOf, placeOf}
-use Rattle.table.specs.Words.{placeSize, wordsOf, placeIn}
 use Rattle.table.specs.declared.Place.{Place}
 use Rattle.book.specs.Checks.{Check, at-most, equal, fault, firstFault}
 use Rattle.book.specs.Rows.{tableOfRater}
@@ -77,11 +75,6 @@ changeFault p clear = emptyFault p
 abbrev pub changedTo : Change → Place
 changedTo (load book rater) = placeOf (tableOfRater book rater)
 changedTo clear = fresh
-
--- What load requires of a lent place: all words are there, and where it is not loaded they are those of an empty one.
-pub record Fillable (w : List ℕ) : Type 0 where
-  pub long : length w ≡ placeSize
-  pub unused : placeIn w .loaded ≡ false → w ≡ wordsOf fresh
 
 -- Compare.
 

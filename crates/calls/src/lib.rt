@@ -11,7 +11,8 @@ ghost use Rattle.measures.specs.Measures.{measuresOf};
 ghost use Rattle.measures.specs.Brier.{brierOf};
 ghost use Rattle.spread.specs.Spread.{IsSpread};
 ghost use Rattle.calls.specs.Answers.{answer, leaves, Limited, cheapestSays, measuresSays, brierSays, spreadSays, totalsSays};
-ghost use Rattle.calls.specs.Calls.{emptyFault, questionFault, cheapest, measures, brier, spread, fillFault, pool, changeFault, load, clear, Fillable};
+ghost use Rattle.calls.specs.Calls.{emptyFault, questionFault, cheapest, measures, brier, spread, fillFault, pool, changeFault, load, clear};
+ghost use Rattle.calls.specs.Private.{Fillable};
 
 mod pair;
 
@@ -21,6 +22,7 @@ use cutoff::Verdict;
 use measures::Measures;
 use measures::UnsignedFraction;
 pub use pair::compare;
+use pooling::NUMBERS;
 use refusals::HIGH_PRICE;
 use refusals::NO_DEFAULTS;
 use refusals::NO_SURVIVORS;
@@ -107,7 +109,7 @@ pub fn pool(place: &[u32], out: &mut [u32]) -> u32
     if !is_loaded(place) {
         return PLACE_EMPTY;
     }
-    if out.len() < 3 * grades_of(place) {
+    if out.len() < NUMBERS * grades_of(place) {
         return SHORT_BUFFER;
     }
     pooling::pool(place, out);

@@ -1,6 +1,7 @@
 // Compare, the call on two places: every check, and then the verdict.
 ghost use Rattle.table.specs.Words.{placeIn, IsPlace};
-ghost use Rattle.calls.specs.Answers.{compareSays, totalsSays, SameRefusal};
+ghost use Rattle.calls.specs.Answers.{compareSays, totalsSays};
+ghost use Rattle.calls.specs.Private.{SameRefusal};
 ghost use Rattle.calls.specs.Calls.{Compared};
 use crate::CompareAnswer;
 use crate::TotalsAnswer;

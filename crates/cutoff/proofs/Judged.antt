@@ -7,7 +7,8 @@ use native.Mathlib.Omega.{arith}
 use lib.Dec.{T}
 use Rattle.table.specs.Table.{Table, Every, Counted, Sound, survivors, survivorsIn}
 use Rattle.table.proofs.Every.{every-map}
-use Rattle.pooling.specs.Pool.{pool, pooledScale, blockWords, blocksIn}
+use Rattle.pooling.specs.Pool.{pool, pooledScale}
+use Rattle.pooling.specs.Private.{blockWords, blocksIn}
 use Rattle.pooling.proofs.Front.{pool-rising}
 use Rattle.pooling.proofs.Joined.{pooled-totals}
 use Rattle.pooling.proofs.Words.{blocks-back}

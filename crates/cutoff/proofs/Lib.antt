@@ -8,4 +8,3 @@ pub mod Held
 pub mod Sweep
 pub mod Settled
 pub mod Judged
-pub mod Claims

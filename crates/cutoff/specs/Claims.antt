@@ -1,4 +1,5 @@
--- What is proved of cutoffs, beside the contracts. Each claim is proved in proofs/Claims.antt under its name.
+-- What is claimed of cutoffs beyond the contracts. The contract of `claims` in src/lib.rt is all of it, so that the crate is refused where
+-- a claim is not proved.
 use Prim.Native.Nat.{ℕ, _≤_, _<_}
 use mathlib.Core.Path.{_≡_}
 use mathlib.Core.Logic.{_↔_}
@@ -45,3 +46,13 @@ abbrev pub VerdictsAreRight : Type 0
 VerdictsAreRight =
     (t₁ t₂ : Table) → Every Counted t₁ → Every Counted t₂ → survivorsIn t₁ ≡ survivorsIn t₂
     → (v : Verdict) → IsVerdict t₁ t₂ v → Settles t₁ t₂ v
+
+-- All of them: what the function `claims` of this crate promises.
+pub record Claims : Type 0 where
+  pub cheapest-is-cheapest : CheapestIsCheapest
+  pub cutoff-has-the-cost : CutoffHasTheCost
+  pub no-smaller-cutoff-is-as-cheap : NoSmallerCutoffIsAsCheap
+  pub cheapest-cost-is-unique : CheapestCostIsUnique
+  pub pooled-scale-costs-the-same : PooledScaleCostsTheSame
+  pub break-even-prices-decide : BreakEvenPricesDecide
+  pub verdicts-are-right : VerdictsAreRight

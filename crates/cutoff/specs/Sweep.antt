@@ -1,10 +1,11 @@
--- The search for prices at which one scale costs more than another: the contract of a private function. What `judge` promises does not
--- rest on it.
+-- Serves contracts of functions inside the library only: what is promised does not rest on it.
+-- The search for prices at which one scale costs more than another.
 use Prim.Native.Nat.{ℕ, _≤_}
 use mathlib.Core.Path.{_≡_}
 use mathlib.Core.List.{List, map}
 use Rattle.table.specs.Table.{Table, Every, Counted, survivors, obligorsIn}
-use Rattle.pooling.specs.Pool.{Rising, asGrade, blockWords, blocksIn}
+use Rattle.pooling.specs.Pool.{Rising, asGrade}
+use Rattle.pooling.specs.Private.{blockWords, blocksIn}
 use Rattle.cutoff.specs.Cutoff.{NoDearer}
 use Rattle.cutoff.specs.Verdict.{DearerAt}
 use Rattle.cutoff.specs.declared.Dearer.{Dearer}

@@ -9,6 +9,7 @@ ghost use Rattle.pooling.specs.Pool.{asGrade};
 ghost use Rattle.cutoff.specs.Cutoff.{cheapestOf};
 ghost use Rattle.cutoff.specs.Verdict.{breakEven, IsVerdict};
 ghost use Rattle.cutoff.specs.Sweep.{scaleIn, Sweepable, Finds};
+ghost use Rattle.cutoff.specs.Claims.{Claims};
 use pooling::BLOCKS;
 use pooling::Block;
 use pooling::block_at;
@@ -197,3 +198,8 @@ pub fn judge(first: &[u32], second: &[u32]) -> Verdict
         },
     }
 }
+
+// What is claimed of cutoffs: the function does nothing, its contract is all claims of this crate.
+pub fn claims()
+    ensures { λ _. ⌜ Claims ⌝ }
+{}

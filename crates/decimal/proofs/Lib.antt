@@ -2,4 +2,3 @@ pub mod Sign
 pub mod Rounding
 pub mod Reading
 pub mod Nearest
-pub mod Claims

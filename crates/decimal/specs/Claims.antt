@@ -1,4 +1,5 @@
--- What is proved of rounding, beside the contracts. Each claim is proved in proofs/Claims.antt under its name.
+-- What is claimed of rounding beyond the contracts. The contract of `claims` in src/lib.rt is all of it, so that the crate is refused where
+-- a claim is not proved.
 use Prim.Native.Nat.{ℕ, _+_, _-_, _*_, _^_, _≤_, _<_}
 use mathlib.Core.Path.{_≡_}
 use Rattle.decimal.specs.Rounding.{rounded}
@@ -17,3 +18,8 @@ RoundedIsNearest =
     (n d k m : ℕ) → 0 < d
     → (distance n d k (rounded n d k) ≤ distance n d k m)
     × (distance n d k m ≡ distance n d k (rounded n d k) → m ≤ rounded n d k)
+
+-- All of them: what the function `claims` of this crate promises.
+pub record Claims : Type 0 where
+  pub rounding-is-off-by-half-a-unit : RoundingIsOffByHalfAUnit
+  pub rounded-is-nearest : RoundedIsNearest

@@ -5,6 +5,7 @@ ghost use mathlib.Core.Bool.{true};
 ghost use lib.IntN.{natAbs};
 ghost use Rattle.decimal.specs.Rounding.{rounded, decimalOf, Proper};
 ghost use Rattle.decimal.specs.Numeral.{isDigit, numeralIn};
+ghost use Rattle.decimal.specs.Claims.{Claims};
 
 // A decimal that is not negative: the whole number before the point, and the places behind it read as one number.
 pub struct Decimal {
@@ -118,3 +119,8 @@ fn digit(b: u8) -> u32
 {
     (b - b'0') as u32
 }
+
+// What is claimed of rounding: the function does nothing, its contract is all claims of this crate.
+pub fn claims()
+    ensures { λ _. ⌜ Claims ⌝ }
+{}

@@ -13,7 +13,8 @@ use Rattle.book.specs.Encode.{bookSize, encode}
 use Rattle.book.specs.Writing.{writeFault, lengthOr, bufferOr}
 use Rattle.book.proofs.Checks.{held, held-first}
 use Rattle.book.proofs.Books.{length-encode}
-use Rattle.book.proofs.Claims.{WrittenBookReadsBack, ReadBookWritesBack}
+use Rattle.book.proofs.RoundTrip.{round-trip}
+use Rattle.book.proofs.Again.{written-again}
 use Rattle.pooling.specs.Numbers.{ratesWritten}
 use Rattle.pooling.specs.Regression.{IsRegression}
 use Rattle.pooling.proofs.LeastSquares.{pooled-regression}
@@ -50,7 +51,7 @@ pub loads-back : (d : Desk) → SoundDesk d → (out : List ℕ) → writeFault 
 unfolding lengthOr
 loads-back d s out e j from to =
     let ts = loadedTables d in
-    let r = WrittenBookReadsBack (d .first) (d .second) (sound-loaded (s .first)) (sound-loaded (s .second)) out (bookSize ts) (rw e refl) j from to in
+    let r = round-trip (d .first) (d .second) (sound-loaded (s .first)) (sound-loaded (s .second)) out (bookSize ts) (rw e refl) j from to in
     rw (r .0, r .1)
 
 pub writes-back : (b : List ℕ) → Every Byte b → layoutFault b ≡ 0 → ((j : ℕ) → 1 ≤ j → j ≤ raters b → kindAt b (startOf b j) ≡ 0)
@@ -58,6 +59,6 @@ pub writes-back : (b : List ℕ) → Every Byte b → layoutFault b ≡ 0 → ((
     → lentAfter d (write out) ≡ b ++ drop (length b) out
 unfolding bufferOr
 writes-back b bytes e kinds d ts out f =
-    let again : encode (loadedTables d) ≡ b = rw ts (ReadBookWritesBack b bytes e kinds) in
+    let again : encode (loadedTables d) ≡ b = rw ts (written-again b bytes e kinds) in
     let size : bookSize (loadedTables d) ≡ length b = sym (length-encode (loadedTables d)) ∙ ap (λ l. length l) again in
     rw (f, again, size)

@@ -8,7 +8,7 @@ use Rattle.table.specs.Place.{placeOf}
 use Rattle.table.proofs.Placed.{table-placed, placed-loaded}
 use Rattle.book.proofs.Checks.{found, none, pass, same, go}
 use Rattle.cutoff.specs.declared.Verdict.{Verdict}
-use Rattle.cutoff.proofs.Claims.{VerdictsAreRight}
+use Rattle.cutoff.proofs.Settled.{settles}
 use Rattle.calls.specs.Answers.{Answer, accepted, refused}
 use Rattle.calls.specs.Calls.{emptyFault, pairChecks, compareFault}
 use Rattle.desk.specs.Calls.{Call, compare, numberOf, Compares}
@@ -31,7 +31,7 @@ module _ (t₁ t₂ : Table) (d : defaultsIn t₁ ≡ defaultsIn t₂) (s : surv
 
   compared : Sound t₁ → Sound t₂ → (r : Answer Verdict) → Compares (deskOf (table t₁) (table t₂)) r → SettledBy t₁ t₂ r
   compared sound₁ sound₂ (accepted v) c =
-      VerdictsAreRight t₁ t₂ (sound₁ .counted) (sound₂ .counted) s v (simp table-placed at (c .1))
+      settles t₁ t₂ (sound₁ .counted) (sound₂ .counted) s v (simp table-placed at (c .1))
   compared sound₁ sound₂ (refused n) c = c .1 (sym (c .0) ∙ sym faultless)
 
 pub compare-right : (calls : List Call) (t₁ t₂ : Table) → held 1 calls ≡ table t₁ → held 2 calls ≡ table t₂

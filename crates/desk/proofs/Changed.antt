@@ -10,7 +10,8 @@ use Rattle.table.specs.Words.{placeSize, wordsOf, placeIn}
 use Rattle.table.proofs.Words.{Long, long-place, words-length, place-back}
 use Rattle.book.proofs.Checks.{first-none}
 use Rattle.calls.specs.Answers.{leaves}
-use Rattle.calls.specs.Calls.{Change, load, clear, changedTo, changeFault, Fillable}
+use Rattle.calls.specs.Calls.{Change, load, clear, changedTo, changeFault}
+use Rattle.calls.specs.Private.{Fillable}
 use Rattle.desk.specs.declared.Desk.{Desk}
 use Rattle.desk.specs.Desk.{placeAt, withPlace}
 use Rattle.desk.specs.Calls.{placeFault, change, numberOf, after}

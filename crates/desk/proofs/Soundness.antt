@@ -10,7 +10,7 @@ use Rattle.table.proofs.Test.{by-test}
 use Rattle.book.specs.Rows.{tableOfRater}
 use Rattle.book.specs.Reading.{readFault}
 use Rattle.book.proofs.Checks.{held-first}
-use Rattle.book.proofs.Claims.{ReadingIsSound}
+use Rattle.book.proofs.Accept.{accepted}
 use Rattle.calls.specs.Calls.{Change, load, clear, changedTo, changeFault}
 use Rattle.calls.proofs.Leaves.{by-fault}
 use Rattle.desk.specs.declared.Desk.{Desk}
@@ -24,7 +24,7 @@ with-sound : {d : Desk} {p : Place} (i : ℕ) → SoundDesk d → SoundPlace p �
 with-sound i s t = by-test SoundDesk (eqb i 1) (λ _. record { first = t; second = s .second }) (λ _. record { first = s .first; second = t })
 
 pub read-sound : (b : List ℕ) (j : ℕ) → readFault b j ≡ 0 → Sound (tableOfRater b j)
-read-sound b j e = let a = ReadingIsSound b j e in rw (← a .table) (a .sound)
+read-sound b j e = let a = accepted b j e in rw (← a .table) (a .sound)
 
 pub changed-sound : (p : Place) (c : Change) → changeFault p c ≡ 0 → SoundPlace (changedTo c)
 unfolding changeFault

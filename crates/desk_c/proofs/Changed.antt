@@ -7,12 +7,14 @@ use Rattle.table.specs.Words.{placeIn}
 use Rattle.table.proofs.Words.{long-place, long-words, holds-nothing}
 use Rattle.book.proofs.Checks.{first-none}
 use Rattle.calls.specs.Answers.{leaves}
-use Rattle.calls.specs.Calls.{Change, changedTo, changeFault, Fillable}
+use Rattle.calls.specs.Calls.{Change, changedTo, changeFault}
+use Rattle.calls.specs.Private.{Fillable}
 use Rattle.desk.specs.Desk.{withPlace}
 use Rattle.desk.specs.Calls.{placeFault, change, numberOf, after}
 use Rattle.desk.proofs.Soundness.{changed-sound}
 use Rattle.desk.proofs.Asked.{words-place, place-is}
-use Rattle.desk_c.specs.Image.{imageOf, startOf, wordsFrom, deskIn, withWords, IsImage}
+use Rattle.desk_c.specs.Image.{imageOf, wordsFrom, deskIn, IsImage}
+use Rattle.desk_c.specs.Private.{startOf, withWords}
 use Rattle.desk_c.proofs.Images.{words-of, image-put}
 
 -- Load finds what it requires.

@@ -12,7 +12,8 @@ use Rattle.table.specs.Words.{wordsOf, placeIn}
 use Rattle.table.proofs.Words.{Long, long-place, words-length, place-back}
 use Rattle.desk.specs.declared.Desk.{Desk}
 use Rattle.desk.specs.Desk.{placeAt, withPlace, SoundDesk}
-use Rattle.desk_c.specs.Image.{deskSize, imageOf, startOf, wordsFrom, deskIn, withWords, IsImage}
+use Rattle.desk_c.specs.Image.{imageOf, wordsFrom, deskIn, IsImage}
+use Rattle.desk_c.specs.Private.{deskSize, startOf, withWords}
 
 -- Two lists of 122 numbers, one behind the other.
 module _ (u v : List ℕ) (m : length u ≡ 122) (n : length v ≡ 122) where

@@ -3,4 +3,3 @@ pub mod Parts
 pub mod Changed
 pub mod Answered
 pub mod Signed
-pub mod Claims

@@ -11,7 +11,8 @@ use Rattle.table.proofs.Words.{long-place, words-length}
 use Rattle.calls.specs.Answers.{leaves}
 use Rattle.calls.specs.Calls.{Change, changedTo, changeFault}
 use Rattle.desk.proofs.Soundness.{changed-sound}
-use Rattle.desk_c.specs.Image.{wordsFrom, withWords}
+use Rattle.desk_c.specs.Image.{wordsFrom}
+use Rattle.desk_c.specs.Private.{withWords}
 
 -- The end of a part, less its start.
 pub span : (at : ℕ) → at + 122 - at ≡ 122

@@ -1,4 +1,5 @@
--- What is proved of images, beside the contracts. Each claim is proved in proofs/Claims.antt under its name.
+-- What is claimed of images beyond the contracts. The contract of `claims` in src/lib.rt is all of it, so that the crate is refused where
+-- a claim is not proved.
 use mathlib.Core.Path.{_≡_}
 use mathlib.Core.List.{List}
 use Rattle.desk.specs.declared.Desk.{Desk}
@@ -14,3 +15,8 @@ ImagesReadBack = (d : Desk) → SoundDesk d → deskIn (imageOf d) ≡ d
 -- What a function requires of a desk's numbers is what calls from the fresh desk imply, and nothing more.
 abbrev pub CallsLeaveImages : Type 0
 CallsLeaveImages = (calls : List Call) → IsImage (imageOf (deskAfter calls))
+
+-- All of them: what the function `claims` of this crate promises.
+pub record Claims : Type 0 where
+  pub images-read-back : ImagesReadBack
+  pub calls-leave-images : CallsLeaveImages

@@ -1,27 +1,15 @@
 -- The image of a desk: the words of its two places, 244 numbers of 4 bytes in the caller's memory, as include/desk.h lays them out.
 use Prim.Native.Nat.{ℕ}
 use mathlib.Core.Path.{_≡_}
-use mathlib.Core.Bool.{cond}
 use mathlib.Core.List.{List, _++_}
-use lib.Dec.{eqb}
 use lib.ListN.{take, drop}
-use lib.Seq.{paste}
 use Rattle.table.specs.Table.{Table}
-use Rattle.table.specs.declared.Place.{Place}
 use Rattle.table.specs.Words.{placeSize, wordsOf, placeIn}
 use Rattle.desk.specs.declared.Desk.{Desk}
 use Rattle.desk.specs.Desk.{tableAt, SoundDesk}
 
--- how many numbers there are
-abbrev pub deskSize : ℕ
-deskSize = 244
-
 abbrev pub imageOf : Desk → List ℕ
 imageOf d = wordsOf (d .first) ++ wordsOf (d .second)
-
--- where the words of place i start
-abbrev pub startOf : ℕ → ℕ
-startOf i = cond (eqb i 1) 0 placeSize
 
 -- the words of a place that start at `at`
 abbrev pub wordsFrom : List ℕ → ℕ → List ℕ
@@ -33,10 +21,6 @@ deskIn w = record { first = placeIn (wordsFrom w 0); second = placeIn (wordsFrom
 -- the table in place i
 abbrev pub tableOn : List ℕ → ℕ → Table
 tableOn w i = tableAt (deskIn w) i
-
--- an image in which the words from `at` on are those of p
-abbrev pub withWords : List ℕ → ℕ → Place → List ℕ
-withWords w at p = paste w at (wordsOf p) placeSize
 
 -- What a function requires of the numbers of a desk: they are the image of a desk that calls left.
 pub record IsImage (w : List ℕ) : Type 0 where

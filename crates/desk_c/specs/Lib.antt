@@ -1,3 +1,4 @@
 pub mod Image
 pub mod Numbers
+pub mod Private
 pub mod Claims

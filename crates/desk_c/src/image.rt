@@ -6,8 +6,10 @@ ghost use Rattle.table.specs.Place.{fresh, placeOf};
 ghost use Rattle.table.specs.Words.{placeSize, placeIn};
 ghost use Rattle.book.specs.Rows.{tableOfRater};
 ghost use Rattle.calls.specs.Answers.{leaves};
-ghost use Rattle.calls.specs.Calls.{Fillable, changeFault, load, clear};
-ghost use Rattle.desk_c.specs.Image.{deskSize, startOf, wordsFrom, withWords};
+ghost use Rattle.calls.specs.Calls.{changeFault, load, clear};
+ghost use Rattle.calls.specs.Private.{Fillable};
+ghost use Rattle.desk_c.specs.Image.{wordsFrom};
+ghost use Rattle.desk_c.specs.Private.{deskSize, startOf, withWords};
 use table::PLACE;
 
 // How many numbers a desk takes.

@@ -13,6 +13,7 @@ ghost use Rattle.desk.specs.Desk.{freshDesk};
 ghost use Rattle.desk.specs.Calls.{ask, compare, fill, write, change, numberOf, after, lentAfter, loadedTables};
 ghost use Rattle.desk_c.specs.Image.{imageOf, deskIn, tableOn, IsImage};
 ghost use Rattle.desk_c.specs.Numbers.{Left, cutoffNumbers, verdictNumbers, measuresNumbers, fractionNumbers, spreadNumbers};
+ghost use Rattle.desk_c.specs.Claims.{Claims};
 
 mod image;
 
@@ -225,3 +226,8 @@ pub extern "C" fn desk_write(desk: &[u32; DESK], book: &mut [u8], written: &mut 
         Written::Refused(n) => n,
     }
 }
+
+// What is claimed of images: the function does nothing, its contract is all claims of this crate.
+pub fn claims()
+    ensures { λ _. ⌜ Claims ⌝ }
+{}

@@ -8,11 +8,12 @@ use Rattle.table.proofs.Arithmetic.{times-eq}
 use Rattle.table.proofs.Sums.{obligors-split}
 use Rattle.pooling.specs.Fraction.{Equal, ratio, sum, difference, product}
 use Rattle.pooling.proofs.Scaled.{Over, over-sum, over-difference, equal, over-ratio, over-own, over-product}
-use Rattle.measures.specs.Pairs.{concordant, discordant}
+use Rattle.measures.specs.Pairs.{isConcordant, isDiscordant, concordant, discordant}
 use Rattle.measures.specs.Measures.{pairs, measuresOf}
-use Rattle.measures.specs.Published.{value, signedValue, rocArea, capArea}
+use Rattle.measures.specs.Published.{value, signedValue, rocArea, capArea, probability}
 use Rattle.measures.specs.Claims.{Mixed}
 use Rattle.measures.proofs.Pairs.{every-pair}
+use Rattle.measures.proofs.Counted.{pairs-are-counted}
 use Rattle.measures.proofs.Fractions.{over-signed, over-wider}
 use Rattle.measures.proofs.Areas.{roc-over, cap-over}
 
@@ -48,8 +49,10 @@ module _ (t : Table) (mixed : Mixed t) where
   unfolding measuresOf
   cap-is-area = equal (over-area _ (obligorsIn t) (defaultsIn t)) (cap-over t) twice-profile (omega (arith, every-pair t, profile))
 
-  pub gini-is-difference : Equal (signedValue (measuresOf t .gini)) (difference (ratio (concordant t) (pairs t)) (ratio (discordant t) (pairs t)))
-  gini-is-difference = equal (gini-over t) (over-difference (over-own _ _) (over-own _ _)) some-pairs (omega arith)
+  pub gini-is-difference : Equal (signedValue (measuresOf t .gini)) (difference (probability isConcordant t) (probability isDiscordant t))
+  gini-is-difference =
+      let (c, x, _, all) = pairs-are-counted t in
+      rw (c, x, all) (equal (gini-over t) (over-difference (over-own _ _) (over-own _ _)) some-pairs (omega arith))
 
   pub roc-is-half : Equal (value (measuresOf t .roc)) (product (ratio 1 2) (sum (signedValue (measuresOf t .gini)) (ratio 1 1)))
   unfolding measuresOf

@@ -2,9 +2,12 @@ pub mod Signed
 pub mod Fractions
 pub mod Cutoffs
 pub mod Pairs
+pub mod Counted
+pub mod Listed
 pub mod Sizes
 pub mod Areas
 pub mod Curves
 pub mod Pietra
 pub mod Outcomes
-pub mod Claims
+pub mod Proper
+pub mod Claimed

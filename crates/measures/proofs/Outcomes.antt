@@ -35,7 +35,7 @@ outcomes-over (r ∷ t) h =
     over-same (alike _ _ defaulted (r .defaults) _ _ (alike _ _ survived (survivors r) _ _ (outcomes-over t (h .1)))) 0 _ (omega arith)
 
 -- Each obligor has one outcome.
-length-outcomes : (t : Table) → Every Counted t → length (outcomes t) ≡ obligorsIn t
+pub length-outcomes : (t : Table) → Every Counted t → length (outcomes t) ≡ obligorsIn t
 unfolding outcomes obligorsIn
 length-outcomes [] h = refl
 length-outcomes (r ∷ t) h = simp (length-append, length-replicate) (omega (arith, length-outcomes t (h .1)))

@@ -1,20 +1,37 @@
--- What is proved of the measures, beside the contracts. Each claim is proved in proofs/Claims.antt under its name.
+-- What is proved of the measures, beside the contracts. The contract of `claims` in src/lib.rt is all of it, so that the crate is refused
+-- where a claim is not proved.
 use Prim.Native.Nat.{ℕ, _+_, _≤_, _<_}
 use mathlib.Core.Path.{_≡_}
+use mathlib.Core.Bool.{Bool}
 use lib.ListN.{length}
 use lib.Signed.{_<ℤ_}
 use Rattle.table.specs.Table.{Table, Every, Counted, Rated, defaultsIn, survivorsIn, obligorsIn}
-use Rattle.pooling.specs.Fraction.{AtMost, Equal, ratio, sum, difference, product}
+use Rattle.pooling.specs.Fraction.{Proper, AtMost, Equal, ratio, sum, difference, product}
+use Rattle.measures.specs.Pairs.{number, obligorsOf, IsListOf, Pair, pairsAmong, isConcordant, isDiscordant, isTied}
 use Rattle.measures.specs.Pairs.{concordant, discordant, tied}
 use Rattle.measures.specs.Measures.{pairs, height, pietraAt, measuresOf}
 use Rattle.measures.specs.Brier.{brierOf}
-use Rattle.measures.specs.Published.{value, signedValue, rocArea, capArea, verticalDistance, outcomes, meanSquaredDifference}
+use Rattle.measures.specs.Published.{value, signedValue, rocArea, capArea, probability, verticalDistance, outcomes, meanSquaredDifference}
 
 -- A table with a default and a survivor.
 pub record Mixed (t : Table) : Type 0 where
   pub counted : Every Counted t
   pub defaulted : 1 ≤ defaultsIn t
   pub survived : 1 ≤ survivorsIn t
+
+-- The pairs below are made of all obligors of a table, in grade order.
+abbrev pub ObligorsAreListed : Type 0
+ObligorsAreListed = (t : Table) → IsListOf t (obligorsOf t)
+
+-- "Pairs are one defaulted with one surviving obligor. C counts pairs with the defaulted one in the worse grade, X in the better, T in the
+-- same": of the list of all pairs among all obligors, which has D S of them.
+abbrev pub PairsAreCounted : Type 0
+PairsAreCounted =
+    (t : Table)
+    → (number isConcordant (pairsAmong (obligorsOf t)) ≡ concordant t)
+    × (number isDiscordant (pairsAmong (obligorsOf t)) ≡ discordant t)
+    × (number isTied (pairsAmong (obligorsOf t)) ≡ tied t)
+    × (length (pairsAmong (obligorsOf t)) ≡ pairs t)
 
 -- Every pair of a defaulted and a surviving obligor is concordant, discordant or tied.
 abbrev pub EveryPairIsCounted : Type 0
@@ -42,7 +59,7 @@ GiniIsTheRatioOfAreas =
 abbrev pub GiniIsTheDifferenceOfProbabilities : Type 0
 GiniIsTheDifferenceOfProbabilities =
     (t : Table) → Mixed t
-    → Equal (signedValue (measuresOf t .gini)) (difference (ratio (concordant t) (pairs t)) (ratio (discordant t) (pairs t)))
+    → Equal (signedValue (measuresOf t .gini)) (difference (probability isConcordant t) (probability isDiscordant t))
 
 -- Document 000, (2.11): the area under the ROC curve is half of the accuracy ratio and 1.
 abbrev pub RocIsHalfOfGiniAndOne : Type 0
@@ -67,3 +84,38 @@ abbrev pub BrierIsTheMeanSquaredDifference : Type 0
 BrierIsTheMeanSquaredDifference =
     (t : Table) → Every Counted t → Every Rated t → 1 ≤ obligorsIn t
     → Equal (value (brierOf t)) (meanSquaredDifference (outcomes t))
+
+-- Cross-multiplication compares proper fractions only, those over at least 1. Those that are compared above, or are parts of them, are:
+pub record ProperMeasures (t : Table) : Type 0 where
+  pub gini : Proper (signedValue (measuresOf t .gini))
+  pub roc : Proper (value (measuresOf t .roc))
+  pub cap : Proper (value (measuresOf t .cap))
+  pub pietra : Proper (signedValue (measuresOf t .pietra))
+  pub roc-area : Proper (rocArea t)
+  pub cap-area : Proper (capArea t)
+  pub default-rate : Proper (ratio (defaultsIn t) (obligorsIn t))
+  pub probabilities : (test : Pair → Bool) → Proper (probability test t)
+  pub distances : (g : ℕ) → Proper (verticalDistance t g)
+
+abbrev pub MeasuresAreProper : Type 0
+MeasuresAreProper = (t : Table) → Mixed t → ProperMeasures t
+
+abbrev pub BrierIsProper : Type 0
+BrierIsProper =
+    (t : Table) → Every Counted t → 1 ≤ obligorsIn t → Proper (value (brierOf t)) × Proper (meanSquaredDifference (outcomes t))
+
+-- All of them: what the function `claims` of this crate promises.
+pub record Claims : Type 0 where
+  pub obligors-are-listed : ObligorsAreListed
+  pub pairs-are-counted : PairsAreCounted
+  pub every-pair-is-counted : EveryPairIsCounted
+  pub roc-is-the-area : RocIsTheArea
+  pub cap-is-the-area : CapIsTheArea
+  pub gini-is-the-ratio-of-areas : GiniIsTheRatioOfAreas
+  pub gini-is-the-difference-of-probabilities : GiniIsTheDifferenceOfProbabilities
+  pub roc-is-half-of-gini-and-one : RocIsHalfOfGiniAndOne
+  pub pietra-is-the-largest-distance : PietraIsTheLargestDistance
+  pub no-smaller-cutoff-is-as-high : NoSmallerCutoffIsAsHigh
+  pub brier-is-the-mean-squared-difference : BrierIsTheMeanSquaredDifference
+  pub measures-are-proper : MeasuresAreProper
+  pub brier-is-proper : BrierIsProper

@@ -8,22 +8,11 @@ use Rattle.table.specs.Table.{Table, defaultsIn, survivorsIn, obligorsIn}
 use Rattle.cutoff.specs.Best.{best}
 use Rattle.cutoff.specs.Cutoff.{caught, lost}
 use Rattle.measures.specs.Pairs.{concordant, discordant, tied}
-use Rattle.measures.specs.declared.PairCounts.{PairCounts}
-use Rattle.measures.specs.declared.HighestCutoff.{HighestCutoff}
 use Rattle.measures.specs.declared.Measures.{Measures}
 
 -- D S, the number of pairs
 abbrev pub pairs : Table → ℕ
 pairs t = defaultsIn t * survivorsIn t
-
--- C, X, D and S
-unfoldable pub pairCountsOf : Table → PairCounts
-pairCountsOf t = record {
-  concordant = concordant t;
-  discordant = discordant t;
-  defaults = defaultsIn t;
-  survivors = record { 0 = survivorsIn t };
-}
 
 -- y S - x D at cutoff g, signed
 abbrev pub height : Table → ℕ → ℤ
@@ -36,9 +25,6 @@ higher x y = ltZ y x
 -- the smallest cutoff with the largest y S - x D
 abbrev pub pietraAt : Table → ℕ
 pietraAt t = best higher (height t) (length t)
-
-unfoldable pub highestOf : Table → HighestCutoff
-highestOf t = record { cutoff = pietraAt t; height = height t (pietraAt t) }
 
 unfoldable pub measuresOf : Table → Measures
 measuresOf t = record {

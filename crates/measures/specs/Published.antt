@@ -1,11 +1,13 @@
 -- The published definitions that the measures are held to, in fractions.
 use Prim.Native.Nat.{ℕ, zero, suc, _+_}
+use mathlib.Core.Bool.{Bool}
 use mathlib.Core.List.{List, [], _∷_, _++_}
 use lib.IntN.{ℤ, pos, negsuc}
 use lib.ListN.{length, replicate}
 use Rattle.table.specs.Table.{Table, survivors, defaultsIn, survivorsIn, obligorsIn}
 use Rattle.pooling.specs.Fraction.{Fraction, nought, ratio, sum, difference, square, product}
 use Rattle.cutoff.specs.Cutoff.{caught, lost}
+use Rattle.measures.specs.Pairs.{number, obligorsOf, Pair, pairsAmong}
 use Rattle.measures.specs.declared.SignedFraction.{SignedFraction}
 use Rattle.measures.specs.declared.UnsignedFraction.{UnsignedFraction}
 
@@ -45,6 +47,10 @@ rocArea t = areaUnder (survivorShare t) (defaultShare t) (length t)
 
 abbrev pub capArea : Table → Fraction
 capArea t = areaUnder (obligorShare t) (defaultShare t) (length t)
+
+-- Document 000, (2.6): the probability that a pair of a defaulted and a surviving obligor passes a test, each pair being as likely.
+abbrev pub probability : (Pair → Bool) → Table → Fraction
+probability test t = ratio (number test (pairsAmong (obligorsOf t))) (length (pairsAmong (obligorsOf t)))
 
 -- Document 004: the vertical distance of the two shares at cutoff g.
 abbrev pub verticalDistance : Table → ℕ → Fraction

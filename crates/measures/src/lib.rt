@@ -4,8 +4,10 @@ ghost use mathlib.Core.Path.{_≡_};
 ghost use lib.IntN.{subℕ};
 ghost use Rattle.table.specs.Table.{defaultsIn, survivorsIn};
 ghost use Rattle.table.specs.Words.{tableIn, HoldsTable};
-ghost use Rattle.measures.specs.Measures.{pairCountsOf, highestOf, measuresOf};
+ghost use Rattle.measures.specs.Measures.{measuresOf};
+ghost use Rattle.measures.specs.Private.{pairCountsOf, highestOf};
 ghost use Rattle.measures.specs.Brier.{brierOf};
+ghost use Rattle.measures.specs.Claims.{Claims};
 use table::ANNOUNCED;
 use table::DEFAULTS;
 use table::Obligors;
@@ -182,3 +184,8 @@ pub fn brier(place: &[u32]) -> UnsignedFraction
         denominator: (all.0 as u64) * 1_000_000_000_000,
     }
 }
+
+// What is claimed of the measures: the function does nothing, its contract is all claims of this crate.
+pub fn claims()
+    ensures { λ _. ⌜ Claims ⌝ }
+{}

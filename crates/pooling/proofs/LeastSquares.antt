@@ -7,33 +7,19 @@ use native.Mathlib.Omega.{arith}
 use lib.ListN.{length}
 use Rattle.table.specs.Table.{Table, Every, Occupied}
 use Rattle.table.proofs.Every.{every-append, every-split}
-use Rattle.pooling.specs.Fraction.{Fraction, Proper, AtMost, nought, ratio, sum, difference, square, times}
+use Rattle.pooling.specs.Fraction.{Fraction, Proper, AtMost, sum}
 use Rattle.pooling.specs.Regression.{AllEqual, Monotone, distance, rates, error, IsRegression, pooledRates}
+use Rattle.pooling.proofs.Proper.{proper-rates, proper-error}
 use Rattle.pooling.proofs.Scaled.{Over, Whole, Common, numerator, common, over-sum, at-most, of-at-most}
 use Rattle.pooling.proofs.Runs.{pool-level}
 use Rattle.pooling.proofs.Pooled.{pooled-monotone}
 use Rattle.pooling.proofs.Inner.{inner, over-distance, inner-close, inner-equal}
 use Rattle.pooling.proofs.Parts.{inner-below, inner-same}
 
--- The observed rates and the errors are proper fractions.
-
 length-rates : (t : Table) → length (rates t) ≡ length t
 unfolding rates
 length-rates [] = refl
 length-rates (r ∷ t) = ap suc (length-rates t)
-
-proper-rates : (t : Table) → Every Occupied t → Every Proper (rates t)
-unfolding rates ratio
-proper-rates [] h = tt
-proper-rates (r ∷ t) h = (h .0, proper-rates t (h .1))
-
-proper-distance : (t : Table) (p q : List Fraction) → Every Proper p → Every Proper q → Proper (distance t p q)
-unfolding distance nought sum times square difference
-proper-distance [] p q h k = omega arith
-proper-distance (r ∷ t) [] q h k = omega arith
-proper-distance (r ∷ t) (x ∷ p) [] h k = omega arith
-proper-distance (r ∷ t) (x ∷ p) (y ∷ q) h k =
-    let g = mul-pos (h .0) (k .0) in mul-pos (mul-pos g g) (proper-distance t p q (h .1) (k .1))
 
 -- The observed rates d, the pooled rates p and any rates q that never fall, over one denominator.
 
@@ -87,9 +73,6 @@ module _ (t : Table) (occupied : Every Occupied t) (q : List Fraction) (mono : M
   positive : 1 ≤ m * m
   positive = mul-pos (frame .positive) (frame .positive)
 
-  proper-error : (x : List Fraction) → Monotone t x → Proper (error t x)
-  proper-error x h = proper-distance t d x (proper-rates t occupied) (h .proper)
-
   -- The errors.
 
   pub error-at-least : AtMost (sum (error t p) (distance t p q)) (error t q)
@@ -101,7 +84,7 @@ module _ (t : Table) (occupied : Every Occupied t) (q : List Fraction) (mono : M
   unique : AtMost (error t q) (error t p) → AllEqual p q
   unique l =
       inner-equal m s (frame .positive) t p q occupied (pooled .sized) (mono .sized) (whole .1) (whole .2)
-      (omega (arith, below, same, of-at-most over-mono over-pooled (proper-error q mono) (proper-error p pooled) l))
+      (omega (arith, below, same, of-at-most over-mono over-pooled (proper-error t occupied q mono) (proper-error t occupied p pooled) l))
 
 pub pooled-regression : (t : Table) → Every Occupied t → IsRegression t (pooledRates t)
 pooled-regression t occupied = record { monotone = pooled-monotone t occupied; least = least t occupied; unique = unique t occupied }

@@ -4,6 +4,7 @@ pub mod Scale
 pub mod Runs
 pub mod Scaled
 pub mod Pooled
+pub mod Proper
 pub mod Inner
 pub mod Parts
 pub mod LeastSquares
@@ -12,4 +13,3 @@ pub mod Bands
 pub mod Written
 pub mod Words
 pub mod Backwards
-pub mod Claims

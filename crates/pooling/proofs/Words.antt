@@ -7,7 +7,8 @@ use native.Mathlib.Numerals.{add-one}
 use native.Mathlib.Omega.{arith}
 use lib.ListN.{length, getD, take, drop, length-drop}
 use lib.Seq.{take-all, take-suc, drop-cons, drop-drop, getD-drop}
-use Rattle.pooling.specs.Pool.{Block, blockWords, blockAt, blocksIn}
+use Rattle.pooling.specs.Pool.{Block}
+use Rattle.pooling.specs.Private.{blockWords, blockAt, blocksIn}
 
 pub blocks-back : (bs : List Block) → blocksIn (blockWords bs) ≡ bs
 unfolding blockWords blocksIn

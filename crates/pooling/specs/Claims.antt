@@ -1,4 +1,5 @@
--- What is proved of pooling, beside the contracts. Each claim is proved in proofs/Claims.antt under its name.
+-- What is proved of pooling, beside the contracts. The contract of `claims` in src/lib.rt is all of it, so that the crate is refused where
+-- a claim is not proved.
 use Prim.Native.Nat.{ℕ}
 use mathlib.Core.Path.{_≡_}
 use mathlib.Core.List.{List}
@@ -7,8 +8,8 @@ use Rattle.table.specs.Table.{Table, Every, Occupied, Sound, defaultsIn, obligo
 use Rattle.pooling.specs.Pool.{Block, pool, pooledScale, Rising, Runs}
 use Rattle.pooling.specs.Band.{bandOf, IsBand}
 use Rattle.pooling.specs.Numbers.{pooledInto, ratesWritten}
-use Rattle.pooling.specs.Fraction.{Fraction, AtMost, sum}
-use Rattle.pooling.specs.Regression.{Monotone, IsRegression, distance, error, ratesIn, pooledRates}
+use Rattle.pooling.specs.Fraction.{Fraction, Proper, AtMost, sum, difference, square, times, product}
+use Rattle.pooling.specs.Regression.{Monotone, IsRegression, distance, rates, error, ratesIn, pooledRates}
 
 -- "Blocks are runs of neighbouring grades, rate = block defaults / block obligors."
 abbrev pub BlocksAreRuns : Type 0
@@ -49,3 +50,31 @@ BlocksAreDetermined =
 -- "Band b is the smallest b from 0 to 13 with rate at most 100 times 2^b ppm, compared without rounding; 14 if none."
 abbrev pub BandsAreRight : Type 0
 BandsAreRight = (x : Block) → IsBand x (bandOf x)
+
+-- Cross-multiplication compares proper fractions only, those over at least 1. Arithmetic keeps fractions proper,
+abbrev pub ArithmeticKeepsProper : Type 0
+ArithmeticKeepsProper =
+    (x y : Fraction) → Proper x → Proper y
+    → Proper (sum x y) × Proper (difference x y) × Proper (product x y) × Proper (square x) × ((n : ℕ) → Proper (times n x))
+
+-- and the rates, squared errors and distances that are compared above are proper.
+abbrev pub ErrorsAreProper : Type 0
+ErrorsAreProper =
+    (t : Table) → Every Occupied t
+    → Every Proper (rates t)
+    × Every Proper (pooledRates t)
+    × ((p q : List Fraction) → Monotone t p → Monotone t q → Proper (error t q) × Proper (distance t p q))
+
+-- All of them: what the function `claims` of this crate promises.
+pub record Claims : Type 0 where
+  pub blocks-are-runs : BlocksAreRuns
+  pub rates-rise : RatesRise
+  pub pooled-scale-is-a-table : PooledScaleIsATable
+  pub totals-are-kept : TotalsAreKept
+  pub pooled-rates-are-the-regression : PooledRatesAreTheRegression
+  pub written-rates-are-the-pooled-rates : WrittenRatesAreThePooledRates
+  pub error-is-at-least : ErrorIsAtLeast
+  pub blocks-are-determined : BlocksAreDetermined
+  pub bands-are-right : BandsAreRight
+  pub arithmetic-keeps-proper : ArithmeticKeepsProper
+  pub errors-are-proper : ErrorsAreProper

@@ -3,4 +3,5 @@ pub mod Band
 pub mod Numbers
 pub mod Fraction
 pub mod Regression
+pub mod Private
 pub mod Claims

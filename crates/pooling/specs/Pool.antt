@@ -1,10 +1,10 @@
 -- Pooling: neighbouring grades are joined into blocks until the default rates strictly rise.
-use Prim.Native.Nat.{ℕ, _+_, _*_, _≤_, _<_}
+use Prim.Native.Nat.{_+_, _*_, _≤_, _<_}
 use mathlib.Core.Path.{_≡_}
 use mathlib.Core.Bool.{Bool, cond}
 use mathlib.Core.List.{List, [], _∷_, map}
 use lib.Dec.{ltb}
-use lib.ListN.{length, getD, take, drop}
+use lib.ListN.{length, take, drop}
 use Rattle.table.specs.Table.{Table, Grade, defaultsIn, obligorsIn}
 -- A run of neighbouring grades: how many, their obligors and their defaults.
 pub use Rattle.pooling.specs.declared.Block.{Block}
@@ -55,19 +55,3 @@ blockOf t = record { grades = length t; obligors = obligorsIn t; defaults = defa
 unfoldable pub Runs : List Block → Table → Type 0
 Runs [] t = t ≡ []
 Runs (b ∷ bs) t = (1 ≤ b .grades) × (b ≡ blockOf (take (b .grades) t)) × Runs bs (drop (b .grades) t)
-
--- Blocks as words, the numbers that the code holds: three for each, its grades, its obligors and its defaults.
-unfoldable pub blockWords : List Block → List ℕ
-blockWords [] = []
-blockWords (b ∷ bs) = b .grades ∷ b .obligors ∷ b .defaults ∷ blockWords bs
-
--- the block in the three words from `at` on
-abbrev pub blockAt : List ℕ → ℕ → Block
-blockAt w at = record { grades = getD w at 0; obligors = getD w (at + 1) 0; defaults = getD w (at + 2) 0 }
-
--- the blocks read back from words
-unfoldable pub blocksIn : List ℕ → List Block
-blocksIn [] = []
-blocksIn (g ∷ []) = []
-blocksIn (g ∷ n ∷ []) = []
-blocksIn (g ∷ n ∷ d ∷ w) = record { grades = g; obligors = n; defaults = d } ∷ blocksIn w

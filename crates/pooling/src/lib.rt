@@ -5,10 +5,13 @@ ghost use mathlib.Core.List.{_∷_, _++_};
 ghost use lib.ListN.{length, take, drop};
 ghost use Rattle.table.specs.Words.{tableIn, HoldsTable};
 ghost use Rattle.table.specs.Counts.{largest};
-ghost use Rattle.pooling.specs.Pool.{blockWords, blockAt, join, pool, rateBelow};
+ghost use Rattle.pooling.specs.Pool.{join, pool, rateBelow};
+ghost use Rattle.pooling.specs.Private.{blockWords, blockAt};
 ghost use Rattle.pooling.specs.Band.{bandLimit, bandOf};
 ghost use Rattle.pooling.specs.Numbers.{gradesOf, pooledInto};
+ghost use Rattle.pooling.specs.Claims.{Claims};
 use table::DEFAULTS;
+use table::PPM;
 use table::grades_of;
 
 // A run of neighbouring grades: how many, their obligors and their defaults.
@@ -66,7 +69,7 @@ impl Block {
         requires { ⌜ (bandOf self ≤ most) × (most ≤ 14) ⌝ }
         ensures { λ r. ⌜ r ≡ bandOf self ⌝ }
     {
-        let rate = (self.defaults as u64) * 1_000_000;
+        let rate = (self.defaults as u64) * (PPM as u64);
         let mut b = most;
         while 0 < b {
             if band_limit(b - 1) * (self.obligors as u64) < rate {
@@ -133,6 +136,9 @@ pub fn blocks_of(place: &[u32], items: &mut [u32; BLOCKS]) -> usize
     }
 }
 
+// The numbers that pool writes for each grade: its block's defaults, obligors and band.
+pub const NUMBERS: usize = 3;
+
 // Writes the three numbers of a block, once for each of its grades, so that they end before index `end`.
 fn write_block(x: Block, band: u32, end: usize, out: &mut [u32])
     requires band { ⌜ band ≡ bandOf x ⌝ }
@@ -142,7 +148,7 @@ fn write_block(x: Block, band: u32, end: usize, out: &mut [u32])
     let mut at = end;
     let mut k: u32 = 0;
     while k < x.grades {
-        at -= 3;
+        at -= NUMBERS;
         out[at + 2] = band;
         out[at + 1] = x.obligors;
         out[at] = x.defaults;
@@ -158,7 +164,7 @@ pub fn pool(place: &[u32], out: &mut [u32])
 {
     let mut items = [0; BLOCKS];
     let start = blocks_of(place, &mut items);
-    let mut end = 3 * grades_of(place);
+    let mut end = NUMBERS * grades_of(place);
     let mut at = BLOCKS;
     let mut band: u32 = 14;
     while start < at {
@@ -166,6 +172,11 @@ pub fn pool(place: &[u32], out: &mut [u32])
         let x = block_at(&items, at);
         band = x.band(band);
         write_block(x, band, end, &mut *out);
-        end -= 3 * (x.grades as usize);
+        end -= NUMBERS * (x.grades as usize);
     }
 }
+
+// What is claimed of pooling: the function does nothing, its contract is all claims of this crate.
+pub fn claims()
+    ensures { λ _. ⌜ Claims ⌝ }
+{}

@@ -5,12 +5,20 @@ use decimal::Decimal;
 use decimal::magnitude;
 use libc::STDOUT_FILENO;
 
+// The longest book that a program takes, in bytes: document 01's limit for the input of its printing program.
+pub const INPUT: usize = 8_192;
+
 pub fn text(t: &[u8]) {
     io::write_all(STDOUT_FILENO, t);
 }
 
 pub fn number(n: u64) {
     io::print_decimal(STDOUT_FILENO, n);
+}
+
+pub fn labelled(label: &[u8], n: u64) {
+    text(label);
+    number(n);
 }
 
 // With a leading hyphen where it is negative.

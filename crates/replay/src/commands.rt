@@ -1,5 +1,6 @@
 // Each command, run on the desk.
 ghost use Rattle.desk.specs.Desk.{SoundDesk};
+use crate::script;
 use crate::script::Call;
 use desk::Desk;
 use desk::Stored;
@@ -16,12 +17,12 @@ pub struct Ran {
 const BOOK: usize = 65_535;
 
 // The longest buffer that is lent to pool, in numbers, and what it holds before.
-const NUMBERS: usize = 512;
+const LENT_NUMBERS: usize = 512;
 
 const NUMBER: u32 = 0xaaaa_aaaa;
 
 // The longest buffer that is lent to write, in bytes, and what it holds before.
-const BYTES: usize = 8_192;
+const LENT_BYTES: usize = 8_192;
 
 const BYTE: u8 = 0xaa;
 
@@ -85,10 +86,10 @@ fn pool_into(desk: Desk, place: u32, lent: &mut [u32])
 fn pool(desk: Desk, place: u32, length: usize) -> bool
     requires { ⌜ SoundDesk desk ⌝ }
 {
-    if NUMBERS < length {
+    if LENT_NUMBERS < length {
         return false;
     }
-    let mut numbers = [NUMBER; NUMBERS];
+    let mut numbers = [NUMBER; LENT_NUMBERS];
     pool_into(desk, place, &mut numbers[..length]);
     true
 }
@@ -103,10 +104,10 @@ fn write_into(desk: Desk, lent: &mut [u8])
 fn write(desk: Desk, length: usize) -> bool
     requires { ⌜ SoundDesk desk ⌝ }
 {
-    if BYTES < length {
+    if LENT_BYTES < length {
         return false;
     }
-    let mut bytes = [BYTE; BYTES];
+    let mut bytes = [BYTE; LENT_BYTES];
     write_into(desk, &mut bytes[..length]);
     true
 }
@@ -124,13 +125,13 @@ fn question(desk: Desk, call: Call) -> bool
     let operation = call.operation;
     let place = call.first;
     match operation {
-        3 => return pool(desk, place, call.second as usize),
-        4 => answers::cheapest(desk.cheapest(place, call.second, call.third)),
-        5 => answers::compare(desk.compare()),
-        6 => answers::measures(desk.measures(place)),
-        7 => answers::brier(desk.brier(place)),
-        8 => spread(desk, place),
-        9 => return write(desk, place as usize),
+        script::POOL => return pool(desk, place, call.second as usize),
+        script::CHEAPEST => answers::cheapest(desk.cheapest(place, call.second, call.third)),
+        script::COMPARE => answers::compare(desk.compare()),
+        script::MEASURES => answers::measures(desk.measures(place)),
+        script::BRIER => answers::brier(desk.brier(place)),
+        script::SPREAD => spread(desk, place),
+        script::WRITE => return write(desk, place as usize),
         _ => return false,
     }
     true
@@ -142,8 +143,8 @@ fn answered(desk: Desk, call: Call) -> Ran
 {
     let operation = call.operation;
     match operation {
-        1 => load(desk, call),
-        2 => clear(desk, call.first),
+        script::LOAD => load(desk, call),
+        script::CLEAR => clear(desk, call.first),
         _ => Ran {
             desk,
             goes_on: question(desk, call),

@@ -10,6 +10,25 @@ pub struct Call {
     pub third: u32,
 }
 
+// The operations, as `main` describes them.
+pub const LOAD: u32 = 1;
+
+pub const CLEAR: u32 = 2;
+
+pub const POOL: u32 = 3;
+
+pub const CHEAPEST: u32 = 4;
+
+pub const COMPARE: u32 = 5;
+
+pub const MEASURES: u32 = 6;
+
+pub const BRIER: u32 = 7;
+
+pub const SPREAD: u32 = 8;
+
+pub const WRITE: u32 = 9;
+
 pub enum Command {
     Call(Call),
     // The input has ended before it.
@@ -36,9 +55,9 @@ fn operands_size(operation: u32) -> usize
     ensures { λ r. ⌜ r ≤ 12 ⌝ }
 {
     match operation {
-        1 | 4 => 12,
-        3 => 8,
-        2 | 6 | 7 | 8 | 9 => 4,
+        LOAD | CHEAPEST => OPERANDS,
+        POOL => 8,
+        CLEAR | MEASURES | BRIER | SPREAD | WRITE => 4,
         _ => 0,
     }
 }

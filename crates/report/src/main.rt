@@ -1,38 +1,30 @@
 // The printing program: the pooled grades and the Gini of rater 1 of the book on standard input.
 ghost use Prim.Native.Nat.{_≤_};
 ghost use Rattle.desk.specs.Desk.{SoundDesk};
-use book::Ack;
+use calls::MeasuresAnswer;
+use desk::Ack;
 use desk::Desk;
-use desk::MeasuresAnswer;
 use libc::STDIN_FILENO;
+use measures::SignedFraction;
+use pooling::NUMBERS;
+use print::INPUT;
+use print::labelled;
 use print::number;
 use print::signed;
 use print::text;
+use refusals::BOOK_LENGTH;
 use table::GRADES;
 
-// The longest input, in bytes.
-const LIMIT: usize = 8_192;
-
-// What longer input is refused with.
-const TOO_LONG: u32 = 2;
-
-// What pool writes a grade: block defaults, block obligors, band.
-const NUMBERS: usize = 3;
-
 fn refused(n: u32) {
-    text(b"refused ");
-    number(n as u64);
+    labelled(b"refused ", n as u64);
     text(b"\n");
 }
 
 fn grade(g: usize, defaults: u32, obligors: u32, band: u32) {
     number(g as u64);
-    text(b" ");
-    number(defaults as u64);
-    text(b" ");
-    number(obligors as u64);
-    text(b" ");
-    number(band as u64);
+    labelled(b" ", defaults as u64);
+    labelled(b" ", obligors as u64);
+    labelled(b" ", band as u64);
     text(b"\n");
 }
 
@@ -52,17 +44,18 @@ fn grades(pooled: [u32; NUMBERS * GRADES], count: usize)
     }
 }
 
+fn fraction(f: SignedFraction) {
+    signed(f.numerator);
+    labelled(b" ", f.denominator);
+    text(b"\n");
+}
+
 fn gini(desk: Desk)
     requires { ⌜ SoundDesk desk ⌝ }
 {
     text(b"gini ");
     match desk.measures(1) {
-        MeasuresAnswer::Measures(m) => {
-            signed(m.gini.numerator);
-            text(b" ");
-            number(m.gini.denominator);
-            text(b"\n");
-        }
+        MeasuresAnswer::Measures(m) => fraction(m.gini),
         MeasuresAnswer::Refused(n) => refused(n),
     }
 }
@@ -83,10 +76,10 @@ fn report(book: &[u8]) {
 }
 
 fn main() {
-    let mut input = [0u8; LIMIT + 1];
+    let mut input = [0u8; INPUT + 1];
     let n = io::read_full(STDIN_FILENO, &mut input);
-    if LIMIT < n {
-        refused(TOO_LONG);
+    if INPUT < n {
+        refused(BOOK_LENGTH);
     } else {
         report(&input[..n]);
     }

@@ -6,5 +6,5 @@ pub mod Quarter
 pub mod Exact
 pub mod Adding
 pub mod Brier
-pub mod Claims
+pub mod Proper
 pub mod Plain

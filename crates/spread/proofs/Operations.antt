@@ -49,7 +49,7 @@ whole-value f n h = round-whole f false n h
 
 -- Bounds of values and of errors.
 
-value-proper : (x : Float) → Proper (valueOf x)
+pub value-proper : (x : Float) → Proper (valueOf x)
 unfolding ratio
 value-proper x = den-pos x
 

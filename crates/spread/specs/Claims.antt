@@ -1,8 +1,14 @@
--- What is proved of the spread, beside the contracts. Each claim is proved in proofs/Claims.antt under its name.
-use Rattle.table.specs.Table.{Table, Every, Occupied, Counted}
+-- What is proved of the spread, beside the contracts. The contract of `claims` in src/lib.rt is all of it, so that the crate is refused
+-- where a claim is not proved.
+use Prim.Native.Nat.{ℕ, _*_, _^_, _≤_}
+use mathlib.Core.List.{List}
+use lib.ListN.{length}
+use lib.Ieee.{Float}
+use Rattle.table.specs.Table.{Table, Every, Occupied, Counted, defaultsIn, survivorsIn, obligorsIn}
 use Rattle.pooling.specs.Pool.{pool}
-use Rattle.pooling.specs.Fraction.{Equal}
+use Rattle.pooling.specs.Fraction.{Fraction, Proper, Equal, ratio}
 use Rattle.pooling.specs.Regression.{pooledRates}
+use Rattle.spread.specs.Near.{valueOf}
 use Rattle.spread.specs.Spread.{residualSum}
 use Rattle.spread.specs.Brier.{brierSumOfRates}
 
@@ -10,3 +16,21 @@ use Rattle.spread.specs.Brier.{brierSumOfRates}
 abbrev pub ResidualIsTheBrierSumOfThePooledRates : Type 0
 ResidualIsTheBrierSumOfThePooledRates =
     (t : Table) → Every Occupied t → Every Counted t → Equal (residualSum (pool t)) (brierSumOfRates t (pooledRates t))
+
+-- Cross-multiplication compares proper fractions only, those over at least 1. Those compared here are: the exact numbers of a table,
+abbrev pub SumsAreProper : Type 0
+SumsAreProper =
+    (t : Table) → Every Occupied t
+    → (1 ≤ length t → Proper (ratio (defaultsIn t * survivorsIn t) (obligorsIn t)))
+    × Proper (residualSum (pool t))
+    × ((q : List Fraction) → Every Proper q → Proper (brierSumOfRates t q))
+
+-- and what is held to them: the value of any float, and the bounds.
+abbrev pub FloatsAreProper : Type 0
+FloatsAreProper = (x : Float) (k : ℕ) → Proper (valueOf x) × Proper (ratio 1 (2 ^ k))
+
+-- All of them: what the function `claims` of this crate promises.
+pub record Claims : Type 0 where
+  pub residual-is-the-brier-sum-of-the-pooled-rates : ResidualIsTheBrierSumOfThePooledRates
+  pub sums-are-proper : SumsAreProper
+  pub floats-are-proper : FloatsAreProper

@@ -5,9 +5,11 @@ ghost use mathlib.Core.List.{map};
 ghost use Rattle.table.specs.Table.{Sound};
 ghost use Rattle.table.specs.Words.{tableIn, HoldsTable};
 ghost use Rattle.pooling.specs.Fraction.{ratio};
-ghost use Rattle.pooling.specs.Pool.{asGrade, blockWords, blocksIn};
+ghost use Rattle.pooling.specs.Pool.{asGrade};
+ghost use Rattle.pooling.specs.Private.{blockWords, blocksIn};
 ghost use Rattle.spread.specs.Near.{Within};
 ghost use Rattle.spread.specs.Spread.{IsSpread, residualSum};
+ghost use Rattle.spread.specs.Claims.{Claims};
 use pooling::BLOCKS;
 use pooling::block_at;
 use pooling::blocks_of;
@@ -61,3 +63,8 @@ pub fn spread_of(place: &[u32]) -> Spread
         residual: residual(&items[start..]),
     }
 }
+
+// What is claimed of the spread: the function does nothing, its contract is all claims of this crate.
+pub fn claims()
+    ensures { λ _. ⌜ Claims ⌝ }
+{}

@@ -10,14 +10,14 @@ use Rattle.table.proofs.Arithmetic.{counts-le}
 use Rattle.table.proofs.Sums.{obligors-split}
 use Rattle.measures.specs.Measures.{measuresOf}
 use Rattle.measures.specs.Brier.{brierOf}
-use Rattle.measures.specs.Claims.{Mixed}
 use Rattle.decimal.specs.Rounding.{Proper}
-use Rattle.book.proofs.Checks.{held-first}
+use Rattle.book.proofs.Checks.{held, held-first}
+use Rattle.calls.specs.Answers.{Answer, accepted, refused, answer}
+use Rattle.calls.specs.Calls.{measures, brier, questionFault}
 use Rattle.desk.specs.declared.Desk.{Desk}
-use Rattle.desk.specs.Desk.{SoundDesk}
-use Rattle.desk.specs.Answers.{Answer, accepted, refused, answer}
-use Rattle.desk.specs.Calls.{tableAt, heldFault, measuresFault}
-use Rattle.desk.proofs.Accepted.{table-sound, measured-mixed}
+use Rattle.desk.specs.Desk.{tableAt, SoundDesk}
+use Rattle.desk.specs.Calls.{ask, numberOf}
+use Rattle.desk.proofs.Asked.{asked-sound}
 use Rattle.verdict.specs.Scores.{Scored, ProperMeasures, Measured}
 
 by-answer : {A : Type 0} (P : Answer A → Type 0) (n : ℕ) {x : A} → (n ≡ 0 → P (accepted x)) → ((m : ℕ) → P (refused m)) → P (answer n x)
@@ -39,24 +39,26 @@ product-proper a b h k i l =
     let most = counts-le k l in
     ((omega arith, omega arith), (omega arith, omega arith))
 
-measures-proper : (t : Table) → Sound t → Mixed t → ProperMeasures (measuresOf t)
+measures-proper : (t : Table) → Sound t → 1 ≤ defaultsIn t → 1 ≤ survivorsIn t → ProperMeasures (measuresOf t)
 unfolding measuresOf
-measures-proper t s m =
+measures-proper t s d v =
     let split = obligors-split t (s .counted) in
     let total = s .total in
-    let pairs = product-proper (defaultsIn t) (survivorsIn t) (m .defaulted) (omega arith) (m .survived) (omega arith) in
-    let profile = product-proper (defaultsIn t) (obligorsIn t) (m .defaulted) (omega arith) (omega arith) total in
+    let pairs = product-proper (defaultsIn t) (survivorsIn t) d (omega arith) v (omega arith) in
+    let profile = product-proper (defaultsIn t) (obligorsIn t) d (omega arith) (omega arith) total in
     record { gini = pairs .0; roc = pairs .1; cap = profile .1; pietra = pairs .0 }
 
 module _ (d : Desk) (s : SoundDesk d) (i : ℕ) where
-  pub scored : Scored (answer (heldFault d i) (brierOf (tableAt d i)))
-  scored = by-answer Scored (heldFault d i) (λ e. brier-proper _ (table-sound d s i e)) (λ _. tt)
+  pub scored : Scored (answer (numberOf d (ask i brier)) (brierOf (tableAt d i)))
+  scored = by-answer Scored (numberOf d (ask i brier)) (λ e. brier-proper _ (asked-sound d s i brier e)) (λ _. tt)
 
-  pub measured : Measured (answer (measuresFault d i) (measuresOf (tableAt d i)))
-  unfolding measuresFault
+  pub measured : Measured (answer (numberOf d (ask i measures)) (measuresOf (tableAt d i)))
+  unfolding questionFault
   measured =
       by-answer
       Measured
-      (measuresFault d i)
-      (λ e. measures-proper _ (table-sound d s i (held-first _ _ e .0)) (measured-mixed d s i e))
+      (numberOf d (ask i measures))
+      (λ e.
+      let h = held _ (held-first _ _ (held-first _ _ e .1) .1) in
+      measures-proper _ (asked-sound d s i measures e) (h .0) (h .1 .0))
       (λ _. tt)

@@ -1,13 +1,9 @@
 // The book, from its file.
 use crate::judge;
-use crate::refusals::refused;
+use crate::meanings::refused;
+use print::INPUT;
 use print::text;
-
-// The longest book, in bytes: document 01's limit for the input of its printing program.
-const LIMIT: usize = 8_192;
-
-// What a longer one is refused with.
-const TOO_LONG: u32 = 2;
+use refusals::BOOK_LENGTH;
 
 // How many bytes were read, unless the file cannot be.
 enum Input {
@@ -47,17 +43,17 @@ fn too_long(path: &[u8]) {
     text(b"verdict: ");
     text(path);
     text(b" has over 8,192 bytes: ");
-    refused(TOO_LONG);
+    refused(BOOK_LENGTH);
     text(b"\n");
 }
 
 // Judges two raters of the book in a file, or says what is wrong with the file.
 pub fn judge(path: &[u8], first: u32, second: u32) {
-    let mut space = [0u8; LIMIT + 1];
+    let mut space = [0u8; INPUT + 1];
     match read_file(path, &mut space) {
         Input::Unreadable => unreadable(path),
         Input::Bytes(n) => {
-            if LIMIT < n {
+            if INPUT < n {
                 too_long(path);
             } else {
                 judge::judge(path, &space[..n], first, second);

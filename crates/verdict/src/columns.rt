@@ -2,12 +2,13 @@
 ghost use Prim.Native.Nat.{_≤_, max};
 ghost use mathlib.Core.Path.{_≡_};
 ghost use Rattle.verdict.specs.Scores.{isBelowZero};
-use crate::refusals::refused;
+use crate::meanings::refused;
 use crate::scores::Cell;
 use crate::scores::Column;
 use crate::scores::PLACES;
 use crate::scores::Score;
 use print::digits;
+use print::labelled;
 use print::number;
 use print::spaces;
 use print::text;
@@ -59,8 +60,7 @@ impl Score {
             text(b"-");
         }
         number(self.numerator);
-        text(b"/");
-        number(self.denominator);
+        labelled(b"/", self.denominator);
     }
 
     // How many characters that makes.
@@ -77,14 +77,8 @@ impl Cell {
     fn print(self) {
         match self {
             Cell::Score(s) => s.print(),
-            Cell::Cutoff(g) => {
-                text(b" ");
-                number(g as u64);
-            }
-            Cell::Refused(n) => {
-                text(b" refused ");
-                number(n as u64);
-            }
+            Cell::Cutoff(g) => labelled(b" ", g as u64),
+            Cell::Refused(n) => labelled(b" refused ", n as u64),
         }
     }
 
@@ -147,14 +141,19 @@ fn row(label: &[u8], first: Cell, second: Cell, width: usize)
     text(b"\n");
 }
 
-// The table of both columns.
-pub fn side_by_side(first: Column, second: Column) {
+fn heading(width: usize)
+    requires { ⌜ width ≤ 72 ⌝ }
+{
     text(b"Measures of both scales (the verdict rests on costs, not on these).\n");
     text(b"Higher is better; for Brier, which scores the announced rates, lower is better.\n\n");
-    let width = first.width();
     text(b"             Scale 1");
     gap(HEADING, width);
     text(b" Scale 2\n");
+}
+
+fn upper_rows(first: Column, second: Column, width: usize)
+    requires { ⌜ width ≤ 72 ⌝ }
+{
     let ours = first.gini;
     let theirs = second.gini;
     row(b"Gini        ", ours, theirs, width);
@@ -164,6 +163,11 @@ pub fn side_by_side(first: Column, second: Column) {
     let ours = first.cap;
     let theirs = second.cap;
     row(b"CAP area    ", ours, theirs, width);
+}
+
+fn lower_rows(first: Column, second: Column, width: usize)
+    requires { ⌜ width ≤ 72 ⌝ }
+{
     let ours = first.pietra;
     let theirs = second.pietra;
     row(b"Pietra      ", ours, theirs, width);
@@ -173,6 +177,14 @@ pub fn side_by_side(first: Column, second: Column) {
     let ours = first.brier;
     let theirs = second.brier;
     row(b"Brier       ", ours, theirs, width);
+}
+
+// The table of both columns.
+pub fn side_by_side(first: Column, second: Column) {
+    let width = first.width();
+    heading(width);
+    upper_rows(first, second, width);
+    lower_rows(first, second, width);
     first.explain(b"Scale 1");
     second.explain(b"Scale 2");
 }

@@ -1,58 +1,54 @@
 // Which of two scales is better, in words.
-ghost use Rattle.table.specs.Table.{Sound};
-ghost use Rattle.table.specs.Place.{tableOf};
+ghost use Rattle.table.specs.Words.{HoldsTable, IsPlace};
 ghost use Rattle.desk.specs.Desk.{SoundDesk};
-ghost use Rattle.verdict.specs.Loaded.{Holds};
 use crate::columns::side_by_side;
-use crate::refusals::refused;
+use crate::meanings::refused;
 use crate::scores::column_at;
-use book::Ack;
+use calls::CheapestAnswer;
+use calls::CompareAnswer;
 use cutoff::Price;
 use cutoff::Verdict;
-use desk::CheapestAnswer;
-use desk::CompareAnswer;
+use desk::Ack;
 use desk::Desk;
-use print::number;
+use print::labelled;
 use print::text;
-use table::Place;
+use table::grades_of;
+use table::is_loaded;
+use table::totals_of;
 
-// The counts of the table in a place.
-fn counts(place: Place)
-    requires { ⌜ Sound (tableOf place) ⌝ }
+// The counts of the table in a lent place.
+fn counts(place: &[u32])
+    requires { ⌜ HoldsTable (now place) ⌝ }
 {
-    let totals = place.totals();
-    text(b"grades ");
-    number(place.grades as u64);
-    text(b", obligors N = ");
-    number(totals.obligors.0 as u64);
-    text(b", defaults D = ");
-    number(totals.defaults as u64);
-    text(b", survivors S = ");
-    number(totals.survivors.0 as u64);
+    let totals = totals_of(place);
+    labelled(b"grades ", grades_of(place) as u64);
+    labelled(b", obligors N = ", totals.obligors.0 as u64);
+    labelled(b", defaults D = ", totals.defaults as u64);
+    labelled(b", survivors S = ", totals.survivors.0 as u64);
 }
 
-// What a load left in a place, or why it was refused.
-fn loaded(place: Place, ack: Ack)
-    requires { ⌜ Holds ack place ⌝ }
+// The table that a load left in a place, or why it was refused.
+fn loaded(place: &[u32], ack: Ack)
+    requires { ⌜ IsPlace (now place) ⌝ }
 {
-    match ack {
-        Ack::Done => counts(place),
-        Ack::Refused(n) => refused(n),
+    if is_loaded(place) {
+        counts(place);
+        return;
+    }
+    if let Ack::Refused(n) = ack {
+        refused(n);
     }
 }
 
 // Which rater a scale is, and its table. The scale has the number of its place.
-fn introduce(scale: u64, rater: u32, path: &[u8], place: Place, ack: Ack)
-    requires { ⌜ Holds ack place ⌝ }
+fn introduce(scale: u64, rater: u32, path: &[u8], place: &[u32], ack: Ack)
+    requires { ⌜ IsPlace (now place) ⌝ }
 {
-    text(b"Scale ");
-    number(scale);
-    text(b" is rater ");
-    number(rater as u64);
+    labelled(b"Scale ", scale);
+    labelled(b" is rater ", rater as u64);
     text(b" of ");
     text(path);
-    text(b", in place ");
-    number(scale);
+    labelled(b", in place ", scale);
     text(b": ");
     loaded(place, ack);
     text(b"\n");
@@ -64,10 +60,8 @@ fn cost(scale: &[u8], answer: CheapestAnswer) {
     text(scale);
     match answer {
         CheapestAnswer::Cheapest(c) => {
-            text(b" costs ");
-            number(c.cost);
-            text(b" with cutoff g = ");
-            number(c.cutoff as u64);
+            labelled(b" costs ", c.cost);
+            labelled(b" with cutoff g = ", c.cutoff as u64);
         }
         CheapestAnswer::Refused(n) => {
             text(b": ");
@@ -81,10 +75,8 @@ fn cost(scale: &[u8], answer: CheapestAnswer) {
 fn costs(desk: Desk, p: Price, dearer: &[u8])
     requires { ⌜ SoundDesk desk ⌝ }
 {
-    text(b"\nAt u = ");
-    number(p.u as u64);
-    text(b" and v = ");
-    number(p.v as u64);
+    labelled(b"\nAt u = ", p.u as u64);
+    labelled(b" and v = ", p.v as u64);
     text(b" ");
     text(dearer);
     text(b" costs more:\n");
@@ -92,47 +84,50 @@ fn costs(desk: Desk, p: Price, dearer: &[u8])
     cost(b"scale 2", desk.cheapest(2, p.u, p.v));
 }
 
-fn explain_costs() {
-    text(
-        b"Prices are u for each default that a cutoff misses and v for each survivor that it turns away. Cutoff g turns\n",
-    );
-    text(b"away the g worst grades. A scale costs what its cheapest cutoff costs.\n");
+fn sentence(v: Verdict) {
+    match v {
+        Verdict::Equal => text(
+            b"Verdict: the scales are equal. At all prices both cost the same.\n",
+        ),
+        Verdict::First(_) => text(
+            b"Verdict: scale 1 is better. At no prices does it cost more than scale 2, and at some it costs less.\n",
+        ),
+        Verdict::Second(_) => text(
+            b"Verdict: scale 2 is better. At no prices does it cost more than scale 1, and at some it costs less.\n",
+        ),
+        Verdict::Crossing(_, _) => text(
+            b"Verdict: the scales cross. Neither is better: at some prices scale 1 costs more, at others scale 2.\n",
+        ),
+    }
 }
 
-fn verdict(desk: Desk, v: Verdict)
+// The prices that show a verdict.
+fn witnesses(desk: Desk, v: Verdict)
     requires { ⌜ SoundDesk desk ⌝ }
 {
     match v {
-        Verdict::Equal => {
-            text(b"Verdict: the scales are equal. At all prices both cost the same.\n");
-            explain_costs();
-        }
-        Verdict::First(p) => {
-            text(
-                b"Verdict: scale 1 is better. At no prices does it cost more than scale 2, and at some it costs less.\n",
-            );
-            explain_costs();
-            costs(desk, p, b"scale 2");
-        }
-        Verdict::Second(p) => {
-            text(
-                b"Verdict: scale 2 is better. At no prices does it cost more than scale 1, and at some it costs less.\n",
-            );
-            explain_costs();
-            costs(desk, p, b"scale 1");
-        }
+        Verdict::Equal => {}
+        Verdict::First(p) => costs(desk, p, b"scale 2"),
+        Verdict::Second(p) => costs(desk, p, b"scale 1"),
         Verdict::Crossing(p, q) => {
-            text(
-                b"Verdict: the scales cross. Neither is better: at some prices scale 1 costs more, at others scale 2.\n",
-            );
-            explain_costs();
             costs(desk, p, b"scale 1");
             costs(desk, q, b"scale 2");
         }
     }
 }
 
-// The verdict on the scales in both places, or why there is none, and the measures of those that are loaded.
+fn verdict(desk: Desk, v: Verdict)
+    requires { ⌜ SoundDesk desk ⌝ }
+{
+    sentence(v);
+    text(
+        b"Prices are u for each default that a cutoff misses and v for each survivor that it turns away. Cutoff g turns\n",
+    );
+    text(b"away the g worst grades. A scale costs what its cheapest cutoff costs.\n");
+    witnesses(desk, v);
+}
+
+// The verdict on the scales in both places, or why there is none.
 fn compare(desk: Desk)
     requires { ⌜ SoundDesk desk ⌝ }
 {
@@ -144,6 +139,12 @@ fn compare(desk: Desk)
             text(b"\n");
         }
     }
+}
+
+// The measures of both, where either is loaded.
+fn measures(desk: Desk)
+    requires { ⌜ SoundDesk desk ⌝ }
+{
     if desk.first.loaded || desk.second.loaded {
         text(b"\n");
         side_by_side(column_at(desk, 1), column_at(desk, 2));
@@ -155,10 +156,13 @@ pub fn judge(path: &[u8], book: &[u8], first: u32, second: u32) {
     let one = Desk::empty().load(1, book, first);
     let two = one.desk.load(2, book, second);
     let desk = two.desk;
+    let place = desk.first.words();
     let ack = one.ack;
-    introduce(1, first, path, desk.first, ack);
+    introduce(1, first, path, &place, ack);
+    let place = desk.second.words();
     let ack = two.ack;
-    introduce(2, second, path, desk.second, ack);
+    introduce(2, second, path, &place, ack);
     text(b"\n");
     compare(desk);
+    measures(desk);
 }

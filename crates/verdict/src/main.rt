@@ -6,7 +6,7 @@ use print::text;
 mod book_file;
 mod columns;
 mod judge;
-mod refusals;
+mod meanings;
 mod scores;
 
 // The program's own name and its three arguments.
@@ -26,6 +26,17 @@ fn rater(argument: usize) -> Numeral {
     decimal::read(&space[..n])
 }
 
+// Judges two raters of the book that the first argument names.
+fn judge_book(first: u32, second: u32) {
+    let mut space = io::buffer();
+    let n = os::arg(1, &mut space);
+    if os::errno() != 0 {
+        usage(b"the name of the book is too long");
+        return;
+    }
+    book_file::judge(&space[..n], first, second);
+}
+
 fn main() {
     if os::arg_count() != WORDS {
         usage(b"it takes three arguments");
@@ -39,11 +50,5 @@ fn main() {
         usage(b"B must be a rater number: one to nine digits and nothing else");
         return;
     };
-    let mut space = io::buffer();
-    let n = os::arg(1, &mut space);
-    if os::errno() != 0 {
-        usage(b"the name of the book is too long");
-        return;
-    }
-    book_file::judge(&space[..n], first, second);
+    judge_book(first, second);
 }

@@ -1,20 +1,17 @@
 // What stands in the column of a scale: each measure as its fraction and as a decimal.
 ghost use mathlib.Core.Path.{_≡_};
-ghost use Rattle.measures.specs.Measures.{measuresOf};
-ghost use Rattle.measures.specs.Brier.{brierOf};
 ghost use Rattle.decimal.specs.Rounding.{Proper};
 ghost use Rattle.desk.specs.Desk.{SoundDesk};
-ghost use Rattle.desk.specs.Answers.{answer, measuresSays, brierSays};
-ghost use Rattle.desk.specs.Calls.{tableAt, heldFault, measuresFault};
-ghost use Rattle.verdict.specs.Scores.{scoreOf, signedScoreOf, brierCellOf, columnOf, Measured, Scored};
+ghost use Rattle.calls.specs.Answers.{measuresSays, brierSays};
+ghost use Rattle.verdict.specs.Scores.{scoreOf, signedScoreOf, brierCellOf, columnOf, columnAt, Measured, Scored};
+use calls::BrierAnswer;
+use calls::MeasuresAnswer;
 use decimal::Decimal;
 use decimal::magnitude;
 use decimal::round;
-use desk::BrierAnswer;
 use desk::Desk;
-use desk::MeasuresAnswer;
-use measures::Fraction;
 use measures::SignedFraction;
+use measures::UnsignedFraction;
 
 // The places of a decimal.
 pub const PLACES: usize = 6;
@@ -42,7 +39,7 @@ pub struct Column {
     pub brier: Cell,
 }
 
-fn plain_score(f: Fraction) -> Cell
+fn plain_score(f: UnsignedFraction) -> Cell
     requires { ⌜ Proper (f .denominator) ⌝ }
     ensures { λ r. ⌜ r ≡ scoreOf f ⌝ }
 {
@@ -105,7 +102,7 @@ fn column_of(m: MeasuresAnswer, brier: Cell) -> Column
 // The column of the scale in a place.
 pub fn column_at(desk: Desk, place: u32) -> Column
     requires { ⌜ SoundDesk desk ⌝ }
-    ensures { λ r. ⌜ r ≡ columnOf (answer (measuresFault desk place) (measuresOf (tableAt desk place))) (brierCellOf (answer (heldFault desk place) (brierOf (tableAt desk place)))) ⌝ }
+    ensures { λ r. ⌜ r ≡ columnAt desk place ⌝ }
 {
     column_of(desk.measures(place), brier_score(desk.brier(place)))
 }

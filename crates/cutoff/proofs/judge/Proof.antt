@@ -9,7 +9,8 @@ use lib.ListN.{length, take, drop, length-drop}
 use lib.Seq.{take-all}
 use Rattle.table.specs.Table.{Table, defaultsIn}
 use Rattle.table.specs.Words.{tableIn}
-use Rattle.pooling.specs.Pool.{asGrade, blockWords, blocksIn, pool, pooledScale}
+use Rattle.pooling.specs.Pool.{asGrade, pool, pooledScale}
+use Rattle.pooling.specs.Private.{blockWords, blocksIn}
 use Rattle.pooling.proofs.Joined.{pooled-totals}
 use Rattle.pooling.proofs.Words.{blocks-back}
 use Rattle.cutoff.specs.Verdict.{IsVerdict}

@@ -8,7 +8,8 @@ use native.Mathlib.Omega.{arith}
 use denote.Ref.{now}
 use Rattle.table.specs.Table.{defaultsIn, survivorsIn}
 use Rattle.pooling.specs.declared.Block.{Block}
-use Rattle.pooling.specs.Pool.{asGrade, blockWords, blocksIn}
+use Rattle.pooling.specs.Pool.{asGrade}
+use Rattle.pooling.specs.Private.{blockWords, blocksIn}
 use Rattle.pooling.proofs.Words.{nth, Between, Last, last, at-end}
 use Rattle.cutoff.specs.declared.Cut.{Cut}
 use Rattle.cutoff.specs.Verdict.{breakEven}

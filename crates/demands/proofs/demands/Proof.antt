@@ -1,7 +1,10 @@
 -- The demands: `demands` has nothing to do but to show each of them.
-use Rattle.book.proofs.Claims as book
-use Rattle.cutoff.proofs.Claims as cutoff
-use Rattle.measures.proofs.Claims as measures
+use Rattle.book.proofs.Accept as reading
+use Rattle.book.proofs.RoundTrip.{round-trip}
+use Rattle.book.proofs.Again.{written-again}
+use Rattle.cutoff.proofs.Cost.{cheapest-is, cheapest-unique}
+use Rattle.cutoff.proofs.Pooled.{pooled-costs-same}
+use Rattle.measures.proofs.Claimed as measures
 use Rattle.demands.proofs.History.{places-hold, tables-sound, desk-sound}
 use Rattle.demands.proofs.Faults.{answered}
 use Rattle.demands.proofs.Kept.{refused-kept, written-only, others-kept}
@@ -19,22 +22,22 @@ returns c = record {
   refusals-change-nothing = refused-kept;
   only-what-is-written-changes = written-only;
   other-places-are-kept = others-kept;
-  books-go-both-ways = (book.ReadingIsSound, book.WrittenBookReadsBack, book.ReadBookWritesBack);
+  books-go-both-ways = (reading.accepted, round-trip, written-again);
   written-books-load-back = loads-back;
   loaded-books-write-back = writes-back;
   measures-are-published = (
-    measures.RocIsTheArea,
-    measures.CapIsTheArea,
-    measures.GiniIsTheDifferenceOfProbabilities,
-    measures.GiniIsTheRatioOfAreas,
-    measures.PietraIsTheLargestDistance,
-    measures.BrierIsTheMeanSquaredDifference,
+    measures.claimed .roc-is-the-area,
+    measures.claimed .cap-is-the-area,
+    measures.claimed .gini-is-the-difference-of-probabilities,
+    measures.claimed .gini-is-the-ratio-of-areas,
+    measures.claimed .pietra-is-the-largest-distance,
+    measures.claimed .brier-is-the-mean-squared-difference,
   );
   measured-tables-are-mixed = measured-mixed;
   pool-writes-the-regression = regression-written;
   compare-is-right = compare-right;
-  every-table-has-one-cheapest-cost = (cutoff.CheapestIsCheapest, cutoff.CheapestCostIsUnique);
-  pooling-keeps-the-cheapest-cost = cutoff.PooledScaleCostsTheSame;
+  every-table-has-one-cheapest-cost = (cheapest-is, cheapest-unique);
+  pooling-keeps-the-cheapest-cost = pooled-costs-same;
 }
 
 pub demands-spec : {M : Type 1} → statement M

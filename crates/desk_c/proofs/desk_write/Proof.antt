@@ -7,7 +7,8 @@ use denote.Ref.{now}
 use lib.ListN.{length}
 use Rattle.table.specs.Table.{Table}
 use Rattle.book.specs.Encode.{bookSize}
-use Rattle.book.specs.Writing.{lentTables, writeFault, writeAnswer, bufferAfter}
+use Rattle.book.specs.Writing.{writeFault, writeAnswer, bufferAfter}
+use Rattle.book.specs.Private.{lentTables}
 use Rattle.book.proofs.Books.{writable}
 use Rattle.calls.specs.Answers.{answer}
 use Rattle.desk.specs.Answers.{writtenSays}

@@ -16,7 +16,7 @@ use Rattle.table.proofs.Suffix.{suffix, suffix-all, suffix-end}
 use Rattle.table.proofs.Words.{Turn, turn}
 use Rattle.measures.specs.declared.PairCounts.{PairCounts}
 use Rattle.measures.specs.Pairs.{concordant, discordant}
-use Rattle.measures.specs.Measures.{pairCountsOf}
+use Rattle.measures.specs.Private.{pairCountsOf}
 use Rattle.measures.proofs.Pairs.{few-pairs}
 use Rattle.measures.proofs.count_pairs.Statement.{statement}
 use Rattle.measures.proofs.count_pairs.Tie as tie

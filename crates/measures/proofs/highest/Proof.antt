@@ -22,7 +22,8 @@ use Rattle.table.proofs.Arithmetic.{counts-le}
 use Rattle.table.proofs.Suffix.{suffix, suffix-end, length-grades, small, sound-small}
 use Rattle.table.proofs.Words.{Turn, turn}
 use Rattle.cutoff.specs.Best.{best}
-use Rattle.measures.specs.Measures.{height, higher, highestOf}
+use Rattle.measures.specs.Measures.{height, higher}
+use Rattle.measures.specs.Private.{highestOf}
 use Rattle.measures.proofs.Pairs.{few-counts}
 use Rattle.measures.proofs.Cutoffs.{turned-none, turned-suffix}
 use Rattle.measures.proofs.Signed.{difference-fits}

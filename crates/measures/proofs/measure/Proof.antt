@@ -18,7 +18,8 @@ use Rattle.table.proofs.Suffix.{Small, sound-small}
 use Rattle.measures.specs.declared.PairCounts.{PairCounts}
 use Rattle.measures.specs.declared.HighestCutoff.{HighestCutoff}
 use Rattle.measures.specs.Pairs.{concordant, discordant, tied}
-use Rattle.measures.specs.Measures.{pairs, pairCountsOf, highestOf, measuresOf}
+use Rattle.measures.specs.Measures.{pairs, measuresOf}
+use Rattle.measures.specs.Private.{pairCountsOf, highestOf}
 use Rattle.measures.proofs.Pairs.{every-pair, few-counts, few-pairs}
 use Rattle.measures.proofs.Signed.{difference-fits}
 use Rattle.measures.proofs.measure.Statement.{statement}

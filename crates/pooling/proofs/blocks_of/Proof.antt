@@ -16,7 +16,8 @@ use Rattle.table.specs.Counts.{largest}
 use Rattle.table.specs.declared.Place.{Place}
 use Rattle.table.proofs.Suffix.{suffix, suffix-all, suffix-end, length-grades, small}
 use Rattle.table.proofs.Words.{Turn, turn, few-in}
-use Rattle.pooling.specs.Pool.{Block, single, join, rateBelow, front, pool, blockWords, blockAt}
+use Rattle.pooling.specs.Pool.{Block, single, join, rateBelow, front, pool}
+use Rattle.pooling.specs.Private.{blockWords, blockAt}
 use Rattle.pooling.proofs.Words.{First, first, no-block}
 use Rattle.pooling.proofs.Joined.{sumOf, sum-all}
 use Rattle.pooling.proofs.blocks_of.Statement.{statement}

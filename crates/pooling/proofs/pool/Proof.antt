@@ -12,7 +12,8 @@ use lib.ListN.{length, take, drop, take-append-drop, drop-of-length-le}
 use Rattle.table.specs.Words.{placeIn, tableIn}
 use Rattle.table.proofs.Suffix.{length-grades}
 use Rattle.table.proofs.Words.{few-in}
-use Rattle.pooling.specs.Pool.{Block, Rising, pool, blockWords}
+use Rattle.pooling.specs.Pool.{Block, Rising, pool}
+use Rattle.pooling.specs.Private.{blockWords}
 use Rattle.pooling.specs.Band.{bandOf}
 use Rattle.pooling.specs.Numbers.{gradesOf, numbersOf}
 use Rattle.pooling.proofs.Front.{pool-rising, rising-drop}

@@ -1,13 +1,13 @@
 -- `report` is safe: the desk that its load leaves is sound.
 use borrow.Author.Needs.{needs}
 use Rattle.desk.specs.Desk.{freshDesk, SoundDesk}
-use Rattle.desk.proofs.Places.{few-grades}
-use Rattle.desk.proofs.Soundness.{fresh-sound, load-sound}
+use Rattle.table.proofs.Words.{few-grades}
+use Rattle.desk.proofs.Soundness.{fresh-sound, change-sound}
 use Rattle.report.proofs.report.Statement.{statement}
 use Rattle.report.proofs.report.Tie as tie
 
 sound : (c : tie.After-load) → SoundDesk (c .load .result .desk)
-sound c = rw (c .load .ensures .0, c .before .empty .ensures) (load-sound freshDesk 1 _ 1 fresh-sound)
+sound c = rw (c .load .ensures .0, c .before .empty .ensures) (change-sound freshDesk 1 _ fresh-sound)
 
 pub report-spec : {M : Type 1} → statement M
 report-spec =

@@ -7,7 +7,7 @@ use denote.Ref.{now}
 use lib.ListN.{length, drop}
 use lib.Ieee.{Float}
 use Rattle.pooling.specs.declared.Block.{Block}
-use Rattle.pooling.specs.Pool.{blockWords, blocksIn}
+use Rattle.pooling.specs.Private.{blockWords, blocksIn}
 use Rattle.pooling.proofs.Words.{First, first, no-block}
 use Rattle.spread.proofs.Adding.{Added, start, counts, step, finish}
 use Rattle.spread.proofs.residual.Statement.{statement}

@@ -10,7 +10,8 @@ use Rattle.table.specs.Table.{Table, Every, Occupied, defaultsIn, survivorsIn, 
 use Rattle.table.specs.Words.{tableIn}
 use Rattle.table.specs.Counts.{totalsOf}
 use Rattle.table.proofs.Sums.{obligors-split}
-use Rattle.pooling.specs.Pool.{pool, blockWords}
+use Rattle.pooling.specs.Pool.{pool}
+use Rattle.pooling.specs.Private.{blockWords}
 use Rattle.pooling.proofs.Scale.{pooled-sound}
 use Rattle.pooling.proofs.Words.{blocks-back, words-part}
 use Rattle.spread.proofs.spread_of.Statement.{statement}

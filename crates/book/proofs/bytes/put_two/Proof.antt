@@ -3,7 +3,8 @@ use native.Mathlib.Numerals.{add-one}
 use native.Mathlib.Omega.{arith}
 use borrow.Author.Needs.{needs}
 use lib.ListN.{length-set}
-use Rattle.book.specs.Bytes.{stored, twoBytes}
+use Rattle.book.specs.Bytes.{twoBytes}
+use Rattle.book.specs.Private.{stored}
 use Rattle.book.proofs.bytes.put_two.Statement.{statement}
 use Rattle.book.proofs.bytes.put_two.Tie as tie
 

@@ -12,7 +12,7 @@ use Rattle.book.specs.declared.Row.{Row}
 use Rattle.book.specs.Checks.{fault}
 use Rattle.book.specs.Layout.{gradesAt, kindAt}
 use Rattle.book.specs.Rows.{gradeIn, gradesIn, tableFrom, rowChecks, rowsFault, totalChecks, tableFault}
-use Rattle.book.specs.Reading.{gradeOf, cappedGrade}
+use Rattle.book.specs.Private.{gradeOf, cappedGrade}
 use Rattle.book.proofs.Checks.{found, none, pass, over, first-none, first-some}
 use Rattle.book.proofs.Rows.{rows-end, rows-at, rows-more, cappedTable, capped-more, capped-le, capped-exact, capped-fault, by-rows, by-total}
 use Rattle.book.proofs.reader.rows_fault.Statement.{statement}

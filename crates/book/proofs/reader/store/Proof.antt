@@ -9,10 +9,10 @@ use Rattle.table.specs.Table.{Table, Grade}
 use Rattle.table.specs.Place.{fresh, placeOf}
 use Rattle.table.specs.Words.{wordsOf}
 use Rattle.book.specs.declared.Row.{Row}
-use Rattle.book.specs.Bytes.{stored}
+use Rattle.book.specs.Private.{stored, gradeOf, cappedGrade}
 use Rattle.book.specs.Layout.{startOf, gradesAt, kindAt, endOf}
 use Rattle.book.specs.Rows.{gradeIn, gradesIn, tableFrom, tableOfRater}
-use Rattle.book.specs.Reading.{gradeOf, cappedGrade, readFault}
+use Rattle.book.specs.Reading.{readFault}
 use Rattle.book.proofs.Rows.{rows-end, rows-at, length-rows, cappedTable, capped-le, capped-exact}
 use Rattle.book.proofs.Accept.{checked, sound-read}
 use Rattle.book.proofs.Filled.{columnsAfter, row-stored, place-filled}

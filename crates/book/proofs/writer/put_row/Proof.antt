@@ -1,7 +1,7 @@
 -- `put_row` meets its contract.
 use mathlib.Core.Path.{_∙_}
 use borrow.Author.Needs.{needs}
-use Rattle.book.specs.Reading.{gradeOf}
+use Rattle.book.specs.Private.{gradeOf}
 use Rattle.book.proofs.Books.{grade-stored}
 use Rattle.book.proofs.writer.put_row.Statement.{statement}
 use Rattle.book.proofs.writer.put_row.Tie as tie

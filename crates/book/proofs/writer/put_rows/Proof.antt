@@ -11,7 +11,7 @@ use Rattle.table.specs.Place.{gradeAt, tableOf}
 use Rattle.table.specs.Words.{placeIn}
 use Rattle.table.proofs.Words.{column-at}
 use Rattle.table.proofs.Suffix.{suffix, suffix-all, suffix-end, suffix-at}
-use Rattle.book.specs.Bytes.{stored}
+use Rattle.book.specs.Private.{stored}
 use Rattle.book.specs.Encode.{encodeGrade, encodeGrades}
 use Rattle.book.proofs.Stored.{stored-two, stored-length, stored-none}
 use Rattle.book.proofs.Books.{length-grade}

@@ -8,7 +8,8 @@ use Rattle.table.specs.declared.Place.{Place}
 use Rattle.table.specs.Table.{Table}
 use Rattle.table.specs.Words.{placeIn}
 use Rattle.table.proofs.Words.{is-place}
-use Rattle.book.specs.Writing.{tablesOf, lentTables, writeFault, writeAnswer, bufferAfter}
+use Rattle.book.specs.Writing.{tablesOf, writeFault, writeAnswer, bufferAfter}
+use Rattle.book.specs.Private.{lentTables}
 use Rattle.book.proofs.Books.{writable}
 use Rattle.desk.specs.Answers.{writtenSays}
 use Rattle.desk.specs.Calls.{loadedTables}

@@ -8,7 +8,8 @@ use denote.Ref.{now}
 use lib.ListN.{take, drop}
 use Rattle.table.specs.Words.{wordsOf, placeIn}
 use Rattle.calls.specs.Answers.{leaves}
-use Rattle.calls.specs.Calls.{Fillable, load, changedTo, changeFault}
+use Rattle.calls.specs.Calls.{load, changedTo, changeFault}
+use Rattle.calls.specs.Private.{Fillable}
 use Rattle.desk_c.proofs.Parts.{span, part-changed}
 use Rattle.desk_c.proofs.image.load_at.Statement.{statement}
 use Rattle.desk_c.proofs.image.load_at.Tie as tie

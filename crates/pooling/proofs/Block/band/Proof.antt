@@ -42,6 +42,7 @@ band-spec =
     μ-loop
     (λ c. search needs)
     (λ c. search needs)
+    (λ c. search needs)
     (λ c. c .before .pre)
     (λ c. omega arith)
     (λ c κs. omega arith)

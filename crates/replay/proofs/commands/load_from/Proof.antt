@@ -1,13 +1,13 @@
 -- `load_from` meets its contract.
 use borrow.Author.Needs.{needs}
-use Rattle.desk.proofs.Soundness.{load-sound}
+use Rattle.desk.proofs.Soundness.{change-sound}
 use Rattle.replay.proofs.commands.load_from.Statement.{statement}
 use Rattle.replay.proofs.commands.load_from.Tie as tie
 
 stored-requires : tie.Need-stored-requires
 stored-requires c κs =
     let start = c .before .before .before .before .before .before .before .before .before in
-    rw (c .load .ensures .0) (load-sound _ (start .args .place) _ (start .args .rater) (start .pre))
+    rw (c .load .ensures .0) (change-sound _ (start .args .place) _ (start .pre))
 
 pub load-from-spec : {M : Type 1} → statement M
 load-from-spec =

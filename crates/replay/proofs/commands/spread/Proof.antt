@@ -4,9 +4,9 @@ use borrow.Author.Needs.{needs}
 use Rattle.table.specs.Table.{Table}
 use Rattle.spread.specs.Spread.{IsSpread}
 use Rattle.spread.proofs.Plain.{is-number}
-use Rattle.desk.specs.declared.SpreadAnswer.{SpreadAnswer}
-use Rattle.desk.specs.declared.SpreadAnswer.the-variants.{Spread, Refused}
-use Rattle.desk.specs.Answers.{Limited, spreadSays}
+use Rattle.calls.specs.declared.SpreadAnswer.{SpreadAnswer}
+use Rattle.calls.specs.declared.SpreadAnswer.the-variants.{Spread, Refused}
+use Rattle.calls.specs.Answers.{Limited, spreadSays}
 use Rattle.answers.specs.Answers.{Plain}
 use Rattle.replay.proofs.commands.spread.Statement.{statement}
 use Rattle.replay.proofs.commands.spread.Tie as tie

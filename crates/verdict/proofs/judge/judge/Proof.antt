@@ -1,26 +1,16 @@
--- `judge` is safe: each load leaves a sound desk, and a table in its place where it is accepted.
+-- `judge` is safe: the desk that both loads leave is sound.
 use borrow.Author.Needs.{needs}
+use Rattle.table.proofs.Words.{is-place}
 use Rattle.desk.specs.Desk.{freshDesk, SoundDesk}
-use Rattle.desk.proofs.Soundness.{fresh-sound, load-sound}
-use Rattle.verdict.specs.Loaded.{Holds}
-use Rattle.verdict.proofs.Loads.{holds-first, holds-second, keeps-first}
+use Rattle.desk.proofs.Soundness.{fresh-sound, change-sound}
 use Rattle.verdict.proofs.judge.judge.Statement.{statement}
 use Rattle.verdict.proofs.judge.judge.Tie as tie
 
 sound : (c : tie.After-load) → SoundDesk (c .load .result .desk)
-sound c = rw (c .load .ensures .0, c .before .empty .ensures) (load-sound freshDesk 1 _ _ fresh-sound)
+sound c = rw (c .load .ensures .0, c .before .empty .ensures) (change-sound freshDesk 1 _ fresh-sound)
 
 sound-both : (c : tie.After-load2) → SoundDesk (c .load2 .result .desk)
-sound-both c = rw (c .load2 .ensures .0) (load-sound _ 2 _ _ (sound (c .before)))
-
-first : (c : tie.After-load2) → Holds (c .before .load .result .ack) (c .load2 .result .desk .first)
-first c =
-    let one = c .before in
-    rw (c .load2 .ensures .0, keeps-first (one .load .result .desk) _ _ (one .load .result .ack), one .load .ensures .0)
-    (holds-first _ _ _ (one .load .result .ack) (one .load .ensures .1))
-
-second : (c : tie.After-load2) → Holds (c .load2 .result .ack) (c .load2 .result .desk .second)
-second c = rw (c .load2 .ensures .0) (holds-second _ _ _ (c .load2 .result .ack) (c .load2 .ensures .1))
+sound-both c = rw (c .load2 .ensures .0) (change-sound _ 2 _ (sound (c .before)))
 
 pub judge-spec : {M : Type 1} → statement M
 judge-spec =
@@ -29,9 +19,14 @@ judge-spec =
     (λ c κs. search needs)
     (λ c κs. search needs)
     (λ c κs. search needs)
-    (λ c κs. first (c .before))
-    (λ c κs. second (c .before .before))
+    (λ c κs. sound-both (c .before) .first)
+    (λ c. search needs)
+    (λ c κs. rw (c .before .words .ensures) (is-place (sound-both (c .before .before .before) .first)))
+    (λ c κs. sound-both (c .before .before .before .before) .second)
+    (λ c. search needs)
+    (λ c κs. rw (c .before .words2 .ensures) (is-place (sound-both (c .before .before .before .before .before .before) .second)))
     (λ c. search needs)
     (λ c κs. search needs)
-    (λ c κs. sound-both (c .before .before .before .before .before))
+    (λ c κs. sound-both (c .before .before .before .before .before .before .before .before .before))
+    (λ c κs. sound-both (c .before .before .before .before .before .before .before .before .before .before))
     (λ c. search needs))

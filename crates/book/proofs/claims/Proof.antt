@@ -1,0 +1,16 @@
+-- The claims: `claims` has nothing to do but to show each of them.
+use Rattle.book.proofs.Accept.{accepted}
+use Rattle.book.proofs.RoundTrip.{round-trip}
+use Rattle.book.proofs.Again.{written-again}
+use Rattle.book.proofs.claims.Statement.{statement}
+use Rattle.book.proofs.claims.Tie as tie
+
+returns : tie.Need-returns
+returns c = record {
+  reading-is-sound = accepted;
+  written-book-reads-back = round-trip;
+  read-book-writes-back = written-again;
+}
+
+pub claims-spec : {M : Type 1} → statement M
+claims-spec = tie.close (tie.spec returns)

@@ -1,0 +1,21 @@
+-- Serves contracts of functions inside the library only: what is promised does not rest on it.
+-- Parts of an image, by where they start.
+use Prim.Native.Nat.{ℕ}
+use mathlib.Core.Bool.{cond}
+use mathlib.Core.List.{List}
+use lib.Dec.{eqb}
+use lib.Seq.{paste}
+use Rattle.table.specs.declared.Place.{Place}
+use Rattle.table.specs.Words.{placeSize, wordsOf}
+
+-- how many numbers an image has
+abbrev pub deskSize : ℕ
+deskSize = 244
+
+-- where the words of place i start
+abbrev pub startOf : ℕ → ℕ
+startOf i = cond (eqb i 1) 0 placeSize
+
+-- an image in which the words from `at` on are those of p
+abbrev pub withWords : List ℕ → ℕ → Place → List ℕ
+withWords w at p = paste w at (wordsOf p) placeSize
