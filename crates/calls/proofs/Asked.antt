@@ -21,6 +21,11 @@ pub loaded-at : (l b : Bool) → b ≡ l → not b ≡ false → _≡_ {A = ℕ}
 loaded-at l true e h = rw (← e) refl
 loaded-at l false e h = let z : _≡_ {A = ℕ} 0 1 = cc in absurd (omega arith)
 
+-- 22 is no fault where the place is loaded.
+pub is-loaded : (b : Bool) → _≡_ {A = ℕ} (cond b 0 22) 0 → b ≡ true
+is-loaded true e = refl
+is-loaded false e = absurd (omega arith)
+
 -- A question of an empty place.
 pub asked-empty : {A : Type 0} (p : Place) (q : Question) (x : A) (b : Bool) → b ≡ p .loaded → not b ≡ true
     → refused 22 ≡ answer (questionFault p q) x

@@ -1,7 +1,6 @@
 -- What compare knows of two places: the totals that they answer, and which check of both is the first to fail.
 use Prim.Native.Nat.{ℕ, zero, suc}
 use mathlib.Core.Path.{_≡_, refl, ap, sym}
-use mathlib.Core.Bool.{Bool, true, false, cond}
 use mathlib.Core.List.{List, [], _∷_}
 use native.Mathlib.Omega.{arith}
 use Rattle.table.specs.declared.Totals.{Totals}
@@ -17,7 +16,7 @@ use Rattle.calls.specs.declared.TotalsAnswer.the-variants.{Totals as Giv
 use Rattle.calls.specs.Answers.{Answer, accepted, refused, answer, Limited, totalsSays}
 use Rattle.calls.specs.Private.{SameRefusal}
 use Rattle.calls.specs.Calls.{emptyFault, compareFault, pairChecks}
-use Rattle.calls.proofs.Asked.{Ready}
+use Rattle.calls.proofs.Asked.{is-loaded, Ready}
 
 -- An answer tells whether there is a fault.
 
@@ -36,10 +35,6 @@ pub record Taken (w : List ℕ) (t : Totals) : Type 0 where
   pub ready : Ready w
   pub defaults : t .defaults ≡ defaultsIn (tableIn w)
   pub survivors : t .survivors .0 ≡ survivorsIn (tableIn w)
-
-is-loaded : (b : Bool) → _≡_ {A = ℕ} (cond b 0 22) 0 → b ≡ true
-is-loaded true e = refl
-is-loaded false e = absurd (omega arith)
 
 counted : {t : Totals} (u : Table) → t ≡ totalsOf u → (t .defaults ≡ defaultsIn u) × (t .survivors .0 ≡ survivorsIn u)
 unfolding totalsOf

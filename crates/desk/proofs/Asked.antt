@@ -1,9 +1,7 @@
 -- A call on a place of the desk is the call on its words: the place that they stand for is that place, and 1 is no fault.
 use Prim.Native.Nat.{ℕ, zero, suc}
 use mathlib.Core.Path.{_≡_, refl, sym, ap, _∙_, subst}
-use mathlib.Core.Bool.{Bool, true, false, cond}
 use mathlib.Core.List.{List}
-use native.Mathlib.Omega.{arith}
 use lib.Dec.{eqb}
 use lib.ListN.{length}
 use Rattle.table.specs.Table.{Table, Sound}
@@ -17,6 +15,7 @@ use Rattle.book.specs.Writing.{lengthOr}
 use Rattle.book.proofs.Checks.{first-none, held-first}
 use Rattle.calls.specs.Answers.{Answer, answer, leaves, Limited}
 use Rattle.calls.specs.Calls.{emptyFault, Question, questionFault, Filling, filledWith, fillFault}
+use Rattle.calls.proofs.Asked.{is-loaded}
 use Rattle.desk.specs.declared.Desk.{Desk}
 use Rattle.desk.specs.Desk.{placeAt, tableAt, SoundDesk}
 use Rattle.desk.specs.Answers.{writtenSays}
@@ -26,10 +25,6 @@ pub place-sound : (d : Desk) (i : ℕ) → SoundDesk d → SoundPlace (placeAt d
 place-sound d i s = by-test SoundPlace (eqb i 1) {l = d .first} {r = d .second} (λ _. s .first) (λ _. s .second)
 
 -- A loaded place of a sound desk holds a sound table, and so does one that answers a question.
-
-is-loaded : (b : Bool) → _≡_ {A = ℕ} (cond b 0 22) 0 → b ≡ true
-is-loaded true e = refl
-is-loaded false e = absurd (omega arith)
 
 pub table-sound : (d : Desk) → SoundDesk d → (i : ℕ) → emptyFault (placeAt d i) ≡ 0 → Sound (tableAt d i)
 table-sound d s i e = sound-loaded (place-sound d i s) (is-loaded (placeAt d i .loaded) e)

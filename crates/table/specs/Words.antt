@@ -10,7 +10,20 @@ use Rattle.table.specs.Table.{Table, Sound}
 use Rattle.table.specs.Place.{tableOf, SoundPlace}
 use Rattle.table.specs.declared.Place.{Place}
 
--- how many words there are
+-- where the columns of defaults and of announced rates start, where the grade count and the mark of a loaded place stand, and how many
+-- words there are; the obligors start at 0
+abbrev pub defaultsFrom : ℕ
+defaultsFrom = 40
+
+abbrev pub announcedFrom : ℕ
+announcedFrom = 80
+
+abbrev pub gradeCountAt : ℕ
+gradeCountAt = 120
+
+abbrev pub loadedAt : ℕ
+loadedAt = 121
+
 abbrev pub placeSize : ℕ
 placeSize = 122
 
@@ -27,10 +40,10 @@ abbrev pub placeIn : List ℕ → Place
 placeIn w =
     record {
       obligors = columnIn w 0;
-      defaults = columnIn w 40;
-      announced = columnIn w 80;
-      grades = getD w 120 0;
-      loaded = eqb (getD w 121 0) 1;
+      defaults = columnIn w defaultsFrom;
+      announced = columnIn w announcedFrom;
+      grades = getD w gradeCountAt 0;
+      loaded = eqb (getD w loadedAt 0) 1;
     }
 
 -- its table

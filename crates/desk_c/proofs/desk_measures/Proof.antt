@@ -58,7 +58,7 @@ returns-2 c =
     let fits = c .before .struct-told .given in
     let known : Signed m = record { gini = record { sfits = fits .1 .1 .0 .1 .1 .0 .1 }; pietra = record { sfits = fits .1 .1 .1 .1 .1 .0 .1 .1 .0 .1 }; few = few k } in
     let e = accepted-is _ _ (ap measuresSays (sym (k .measured .given .1)) ∙ says (answer-of k)) in
-    rw (stores-numbers m known) (e .0, ap measuresNumbers (e .1))
+    (e .0, stores-numbers m known ∙ ap measuresNumbers (e .1))
 
 returns-3 : tie.Need-returns-3
 returns-3 c = kept _ _ _ _ _ (ap measuresSays (sym (c .before .measured2 .given .1)) ∙ says (c .before .before .before))
