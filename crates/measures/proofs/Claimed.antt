@@ -1,7 +1,7 @@
 -- What is claimed of the measures holds.
 use Rattle.measures.specs.Claims.{Claims}
 use Rattle.measures.proofs.Listed.{obligors-are-listed}
-use Rattle.measures.proofs.Counted.{pairs-are-counted}
+use Rattle.measures.proofs.Counted.{obligors-are-counted, pairs-are-counted}
 use Rattle.measures.proofs.Pairs.{every-pair}
 use Rattle.measures.proofs.Curves.{roc-is-area, cap-is-area, gini-is-ratio, gini-is-difference, roc-is-half}
 use Rattle.measures.proofs.Pietra.{pietra-is-largest, smaller-is-lower}
@@ -11,6 +11,7 @@ use Rattle.measures.proofs.Proper.{measures-proper, brier-proper}
 pub claimed : Claims
 claimed = record {
   obligors-are-listed = obligors-are-listed;
+  obligors-are-counted = obligors-are-counted;
   pairs-are-counted = pairs-are-counted;
   every-pair-is-counted = every-pair;
   roc-is-the-area = roc-is-area;

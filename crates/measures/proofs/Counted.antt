@@ -5,12 +5,12 @@ use mathlib.Core.Bool.{Bool, true, false, not, cond}
 use mathlib.Core.List.{List, [], _∷_, _++_, map, flatMap}
 use native.Mathlib.Omega.{arith}
 use lib.Dec.{T, ltb, ltb→lt, lt→ltb, eqb, eqb→eq, eqb-refl}
-use lib.ListN.{length, replicate}
+use lib.ListN.{length, replicate, length-append, length-replicate}
 use Rattle.table.specs.Table.{Table, survivors, defaultsIn, survivorsIn}
 use Rattle.table.proofs.Arithmetic.{times-eq}
 use Rattle.measures.specs.Pairs.{those, number, Obligor, obligorsFrom, obligorsOf, Pair, pairsAmong, isConcordant, isDiscordant, isTied}
 use Rattle.measures.specs.Pairs.{concordant, discordant, tied}
-use Rattle.measures.specs.Measures.{pairs}
+use Rattle.measures.specs.Measures.{pairs, measuresOf}
 use Rattle.measures.proofs.Pairs.{every-pair}
 
 -- How many elements pass a test.
@@ -126,6 +126,25 @@ those-survived g (r ∷ t) =
       those-pass _ (survivors r) (good g) (obligorsFrom (suc g) t) refl,
       those-survived (suc g) t,
     )
+
+-- D and S of them.
+
+length-defaulted : (g : ℕ) (t : Table) → length (defaultedFrom g t) ≡ defaultsIn t
+unfolding defaultedFrom defaultsIn
+length-defaulted g [] = refl
+length-defaulted g (r ∷ t) = rw (length-append, length-replicate, length-defaulted (suc g) t)
+
+length-survived : (g : ℕ) (t : Table) → length (survivedFrom g t) ≡ survivorsIn t
+unfolding survivedFrom survivorsIn
+length-survived g [] = refl
+length-survived g (r ∷ t) = rw (length-append, length-replicate, length-survived (suc g) t)
+
+pub obligors-are-counted : (t : Table)
+    → (number (λ o. o .defaulted) (obligorsOf t) ≡ measuresOf t .defaults)
+    × (number (λ o. not (o .defaulted)) (obligorsOf t) ≡ measuresOf t .survivors .0)
+unfolding measuresOf
+obligors-are-counted t =
+    (rw (those-defaulted 0 t) (length-defaulted 0 t), rw (those-survived 0 t) (length-survived 0 t))
 
 -- Survivors of worse grades, against one test; and pairs of survivors of one grade with the defaults of worse ones.
 

@@ -2,7 +2,7 @@
 -- where a claim is not proved.
 use Prim.Native.Nat.{ℕ, _+_, _≤_, _<_}
 use mathlib.Core.Path.{_≡_}
-use mathlib.Core.Bool.{Bool}
+use mathlib.Core.Bool.{Bool, not}
 use lib.ListN.{length}
 use lib.Signed.{_<ℤ_}
 use Rattle.table.specs.Table.{Table, Every, Counted, Rated, defaultsIn, survivorsIn, obligorsIn}
@@ -22,6 +22,13 @@ pub record Mixed (t : Table) : Type 0 where
 -- The pairs below are made of all obligors of a table, in grade order.
 abbrev pub ObligorsAreListed : Type 0
 ObligorsAreListed = (t : Table) → IsListOf t (obligorsOf t)
+
+-- "Measures returns D, S": so many of them defaulted, and so many survived.
+abbrev pub ObligorsAreCounted : Type 0
+ObligorsAreCounted =
+    (t : Table)
+    → (number (λ o. o .defaulted) (obligorsOf t) ≡ measuresOf t .defaults)
+    × (number (λ o. not (o .defaulted)) (obligorsOf t) ≡ measuresOf t .survivors .0)
 
 -- "Pairs are one defaulted with one surviving obligor. C counts pairs with the defaulted one in the worse grade, X in the better, T in the
 -- same": of the list of all pairs among all obligors, which has D S of them.
@@ -107,6 +114,7 @@ BrierIsProper =
 -- All of them: what the function `claims` of this crate promises.
 pub record Claims : Type 0 where
   pub obligors-are-listed : ObligorsAreListed
+  pub obligors-are-counted : ObligorsAreCounted
   pub pairs-are-counted : PairsAreCounted
   pub every-pair-is-counted : EveryPairIsCounted
   pub roc-is-the-area : RocIsTheArea
