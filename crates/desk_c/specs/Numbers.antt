@@ -7,9 +7,11 @@ use lib.Ieee.{Float}
 use Rattle.cutoff.specs.declared.CheapestCutoff.{CheapestCutoff}
 use Rattle.cutoff.specs.declared.Verdict.{Verdict}
 use Rattle.cutoff.specs.declared.Verdict.the-variants.{Equal, First, Second, Crossing}
+use Rattle.cutoff.specs.Verdict.{IsVerdict}
 use Rattle.measures.specs.declared.Measures.{Measures}
 use Rattle.measures.specs.declared.UnsignedFraction.{UnsignedFraction}
 use Rattle.spread.specs.declared.Spread.{Spread}
+use Rattle.desk_c.specs.Image.{tableOn}
 
 -- What a call with the first fault n may leave in its buffer, where document 01 leaves the values of the answer freer: what was there,
 -- or the numbers of an answer that is P.
@@ -19,6 +21,10 @@ Left (suc n) P numbers old new = new ≡ old
 
 abbrev pub cutoffNumbers : CheapestCutoff → List ℕ
 cutoffNumbers c = c .cutoff ∷ c .cost ∷ []
+
+-- what compare may answer of the desk in an image: a verdict on the tables in its two places
+abbrev pub VerdictOn : List ℕ → Verdict → Type 0
+VerdictOn w v = IsVerdict (tableOn w 1) (tableOn w 2) v
 
 -- the kind; the pair at which the first costs more; the pair at which the second costs more. A pair that is not carried is 0, 0.
 abbrev pub verdictNumbers : Verdict → List ℕ

@@ -3,7 +3,6 @@
 ghost use mathlib.Core.Path.{_≡_};
 ghost use Rattle.book.specs.Encode.{bookSize};
 ghost use Rattle.cutoff.specs.Cutoff.{cheapestOf};
-ghost use Rattle.cutoff.specs.Verdict.{IsVerdict};
 ghost use Rattle.measures.specs.Measures.{measuresOf};
 ghost use Rattle.measures.specs.Brier.{brierOf};
 ghost use Rattle.spread.specs.Spread.{IsSpread};
@@ -12,7 +11,7 @@ ghost use Rattle.calls.specs.Calls.{cheapest, measures, brier, spread, pool, lo
 ghost use Rattle.desk.specs.Desk.{freshDesk};
 ghost use Rattle.desk.specs.Calls.{ask, compare, fill, write, change, numberOf, after, lentAfter, loadedTables};
 ghost use Rattle.desk_c.specs.Image.{imageOf, deskIn, tableOn, IsImage};
-ghost use Rattle.desk_c.specs.Numbers.{Left, cutoffNumbers, verdictNumbers, measuresNumbers, fractionNumbers, spreadNumbers};
+ghost use Rattle.desk_c.specs.Numbers.{Left, cutoffNumbers, VerdictOn, verdictNumbers, measuresNumbers, fractionNumbers, spreadNumbers};
 ghost use Rattle.desk_c.specs.Claims.{Claims};
 
 mod image;
@@ -93,7 +92,7 @@ pub extern "C" fn desk_cheapest(
 ) -> u32
     requires { ⌜ IsImage (now desk) ⌝ }
     ensures { λ r. ⌜ r ≡ numberOf (deskIn (now (desk .entry))) (ask place (cheapest u v)) ⌝ }
-    ensures { λ r. let t = tableOn (now (desk .entry)) place in ⌜ now (answer .exit) ≡ leaves r (now (answer .entry)) (cutoffNumbers (cheapestOf t u v)) ⌝ }
+    ensures { λ r. ⌜ now (answer .exit) ≡ leaves r (now (answer .entry)) (cutoffNumbers (cheapestOf (tableOn (now (desk .entry)) place) u v)) ⌝ }
 {
     if !is_place(place) {
         return NO_PLACE;
@@ -113,7 +112,7 @@ pub extern "C" fn desk_cheapest(
 pub extern "C" fn desk_compare(desk: &[u32; DESK], answer: &mut [u32; 5]) -> u32
     requires { ⌜ IsImage (now desk) ⌝ }
     ensures { λ r. ⌜ r ≡ numberOf (deskIn (now (desk .entry))) compare ⌝ }
-    ensures { λ r. let w = now (desk .entry) in ⌜ Left r (IsVerdict (tableOn w 1) (tableOn w 2)) verdictNumbers (now (answer .entry)) (now (answer .exit)) ⌝ }
+    ensures { λ r. ⌜ Left r (VerdictOn (now (desk .entry))) verdictNumbers (now (answer .entry)) (now (answer .exit)) ⌝ }
 {
     let compared = calls::compare(words_at(desk, 0), words_at(desk, PLACE));
     match compared {
@@ -142,7 +141,7 @@ fn numbers_of(v: Verdict) -> [u32; 5]
 pub extern "C" fn desk_measures(desk: &[u32; DESK], place: u32, answer: &mut [i64; 11]) -> u32
     requires { ⌜ IsImage (now desk) ⌝ }
     ensures { λ r. ⌜ r ≡ numberOf (deskIn (now (desk .entry))) (ask place measures) ⌝ }
-    ensures { λ r. let t = tableOn (now (desk .entry)) place in ⌜ now (answer .exit) ≡ leaves r (now (answer .entry)) (measuresNumbers (measuresOf t)) ⌝ }
+    ensures { λ r. ⌜ now (answer .exit) ≡ leaves r (now (answer .entry)) (measuresNumbers (measuresOf (tableOn (now (desk .entry)) place))) ⌝ }
 {
     if !is_place(place) {
         return NO_PLACE;
@@ -174,7 +173,7 @@ pub extern "C" fn desk_measures(desk: &[u32; DESK], place: u32, answer: &mut [i6
 pub extern "C" fn desk_brier(desk: &[u32; DESK], place: u32, answer: &mut [i64; 2]) -> u32
     requires { ⌜ IsImage (now desk) ⌝ }
     ensures { λ r. ⌜ r ≡ numberOf (deskIn (now (desk .entry))) (ask place brier) ⌝ }
-    ensures { λ r. let t = tableOn (now (desk .entry)) place in ⌜ now (answer .exit) ≡ leaves r (now (answer .entry)) (fractionNumbers (brierOf t)) ⌝ }
+    ensures { λ r. ⌜ now (answer .exit) ≡ leaves r (now (answer .entry)) (fractionNumbers (brierOf (tableOn (now (desk .entry)) place))) ⌝ }
 {
     if !is_place(place) {
         return NO_PLACE;
@@ -194,7 +193,7 @@ pub extern "C" fn desk_brier(desk: &[u32; DESK], place: u32, answer: &mut [i64; 
 pub extern "C" fn desk_spread(desk: &[u32; DESK], place: u32, answer: &mut [f64; 2]) -> u32
     requires { ⌜ IsImage (now desk) ⌝ }
     ensures { λ r. ⌜ r ≡ numberOf (deskIn (now (desk .entry))) (ask place spread) ⌝ }
-    ensures { λ r. let t = tableOn (now (desk .entry)) place in ⌜ Left r (IsSpread t) spreadNumbers (now (answer .entry)) (now (answer .exit)) ⌝ }
+    ensures { λ r. ⌜ Left r (IsSpread (tableOn (now (desk .entry)) place)) spreadNumbers (now (answer .entry)) (now (answer .exit)) ⌝ }
 {
     if !is_place(place) {
         return NO_PLACE;

@@ -7,11 +7,10 @@ use denote.Ref.{now}
 use Rattle.table.specs.Words.{placeIn}
 use Rattle.calls.specs.Answers.{compareSays}
 use Rattle.calls.specs.Calls.{Compared}
-use Rattle.cutoff.specs.Verdict.{IsVerdict}
 use Rattle.desk.specs.Calls.{Compares}
 use Rattle.desk.proofs.Asked.{words-place}
-use Rattle.desk_c.specs.Image.{wordsFrom, deskIn, tableOn}
-use Rattle.desk_c.specs.Numbers.{verdictNumbers}
+use Rattle.desk_c.specs.Image.{wordsFrom, deskIn}
+use Rattle.desk_c.specs.Numbers.{VerdictOn, verdictNumbers}
 use Rattle.desk_c.proofs.Images.{words-of}
 use Rattle.desk_c.proofs.Answered.{left-kept}
 use Rattle.desk_c.proofs.desk_compare.Statement.{statement}
@@ -46,7 +45,7 @@ returns-2 c =
     let d = c .before .before .before in
     let w = now (start (d .before) .args .desk) in
     let e = rw (c .before .compared2 .given .1) at (says d) in
-    left-kept (IsVerdict (tableOn w 1) (tableOn w 2)) verdictNumbers _ _ _ (e .0) (e .1)
+    left-kept (VerdictOn w) verdictNumbers _ _ _ (e .0) (e .1)
 
 pub desk-compare-spec : {M : Type 1} → statement M
 desk-compare-spec =
