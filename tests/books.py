@@ -7,16 +7,17 @@ KINDS = {'obligors': 0, 'survivors': 1}
 def described(path):
     """The books that a file of plain lines describes (examples/books.txt says how), by name: a table is its kind and its rows."""
     books = {}
-    for line in open(path):
-        words = line.split('#')[0].split()
-        if not words:
-            continue
-        if words[0] == 'book':
-            tables = books[words[1]] = []
-        elif words[0] == 'rater':
-            tables.append((KINDS[words[1]], []))
-        else:
-            tables[-1][1].append([int(word) for word in words])
+    with open(path) as lines:
+        for line in lines:
+            words = line.split('#')[0].split()
+            if not words:
+                continue
+            if words[0] == 'book':
+                tables = books[words[1]] = []
+            elif words[0] == 'rater':
+                tables.append((KINDS[words[1]], []))
+            else:
+                tables[-1][1].append([int(word) for word in words])
     return books
 
 

@@ -7,13 +7,19 @@ use desk::Desk;
 use libc::STDIN_FILENO;
 use measures::SignedFraction;
 use pooling::NUMBERS;
-use print::INPUT;
-use print::labelled;
 use print::number;
 use print::signed;
 use print::text;
 use refusals::BOOK_LENGTH;
 use table::GRADES;
+
+// The longest book that it takes, in bytes.
+const INPUT: usize = 8_192;
+
+fn labelled(label: &[u8], n: u64) {
+    text(label);
+    number(n);
+}
 
 fn refused(n: u32) {
     labelled(b"refused ", n as u64);

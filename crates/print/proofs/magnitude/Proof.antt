@@ -2,9 +2,9 @@
 use borrow.Author.Needs.{needs}
 use mir.Syntax.{w64}
 use mir.Val.{SFits}
-use Rattle.decimal.proofs.Sign.{Negative, negative, not-negative}
-use Rattle.decimal.proofs.magnitude.Statement.{statement}
-use Rattle.decimal.proofs.magnitude.Tie as tie
+use Rattle.print.proofs.Sign.{Negative, negative, not-negative}
+use Rattle.print.proofs.magnitude.Statement.{statement}
+use Rattle.print.proofs.magnitude.Tie as tie
 
 fits : (c : tie.Start) → SFits w64 (c .args .n)
 fits c = record { sfits = c .good .0 }

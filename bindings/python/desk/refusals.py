@@ -1,0 +1,37 @@
+"""The refusals of document 01: a call is accepted, or refused with one of these numbers and changes nothing."""
+from __future__ import annotations
+
+# What each number means, as docs/REFUSALS.md has it.
+MEANINGS = {
+    1: 'place is not 1 or 2',
+    2: 'book under 4 bytes, or its stated length is not the length lent',
+    3: 'R outside 1 to 16, or the book ends within the offsets (R: number of raters)',
+    4: 'rater outside 1 to R (R: number of raters)',
+    5: 'a table does not start where the one before ended, runs past the end, or bytes follow the last',
+    6: 'grade count outside 1 to 40',
+    7: 'kind above 1, or the two bytes after it not zero',
+    8: 'defaults above obligors (kind 0)',
+    9: 'n is 0 (n: obligors of a grade)',
+    10: 'announced above 1,000,000',
+    11: 'N above 1,000,000 (N: obligors of the table)',
+    12: 'a price above 1,000,000',
+    13: 'lent buffer too short',
+    21: 'place already loaded',
+    22: 'place empty',
+    23: 'no defaults',
+    24: 'no survivors',
+    25: 'D or S differ between the places (D: defaults, S: survivors)',
+}
+
+
+class Refused(Exception):
+    """A call or a table that is refused: document 01's number, its meaning, and where the fault stands if that is known."""
+
+    def __init__(self, number: int, where: str | None = None):
+        self.number = number
+        self.meaning = MEANINGS[number]
+        self.where = where
+        super().__init__(f'refused {number}: {self.meaning}' + (f'; {where}' if where else ''))
+
+    def __reduce__(self):
+        return type(self), (self.number, self.where)

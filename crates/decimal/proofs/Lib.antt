@@ -1,4 +1,0 @@
-pub mod Sign
-pub mod Rounding
-pub mod Reading
-pub mod Nearest
