@@ -1,0 +1,177 @@
+"""A desk: two places, each empty or holding a rater's grade table, and every call on them."""
+from __future__ import annotations
+
+from ctypes import Array, Structure, byref, c_size_t, c_ubyte, c_uint32, pointer
+import operator
+
+from . import library
+from .answers import Cutoff, Kind, Measures, PooledGrade, Price, Spread, Verdict, WrittenFraction
+from .book import as_bytes, encode, load_refusals
+from .refusals import Refused
+from .table import Table
+
+LARGEST = 2 ** 32 - 1
+
+
+def index(value: int, what: str) -> int:
+    try:
+        return operator.index(value)
+    except TypeError:
+        raise TypeError(f'{what} is a whole number, not {value!r}') from None
+
+
+def number(value: int, what: str) -> int:
+    """A whole number as 4 bytes carry it. Another one becomes the largest, which every call refuses as it would that one."""
+    whole = index(value, what)
+    return whole if 0 <= whole <= LARGEST else LARGEST
+
+
+def price(value: int, what: str) -> int:
+    if index(value, what) < 0:
+        raise ValueError(f'{what} is 0 or more, not {value}')
+    return number(value, what)
+
+
+def check_lent(memory: Array, item: type, example: str) -> None:
+    """Whether it is a ctypes array of these items: the library takes its length in them, and writes there."""
+    if not isinstance(memory, Array) or memory._type_ is not item:
+        raise TypeError(f'lend a ctypes array such as {example}, not {type(memory).__name__}')
+
+
+def accept(refusal: int) -> None:
+    if refusal:
+        raise Refused(refusal)
+
+
+class Desk:
+    """Two places, 1 and 2, both empty at first. A refused call raises Refused and leaves the desk and every buffer as they were.
+
+    Desks share nothing, so each thread may have its own.
+
+    >>> desk = Desk()
+    >>> desk.load(1, Table(obligors=[2, 2, 2], defaults=[0, 1, 2], announced=[0, 500_000, 1_000_000]))
+    >>> desk.load(2, Table(survivors=[2, 1], defaults=[1, 2], announced=[333_333, 666_667]))
+    >>> verdict = desk.compare()
+    >>> verdict.kind.name, desk.measures(1).gini
+    ('FIRST', WrittenFraction(8, 9))
+    >>> desk.cheapest(1, u=3, v=1)
+    Cutoff(cutoff=2, cost=1)
+    """
+
+    def __init__(self, path: str | None = None):
+        """`path` names the shared library; left out, it is looked for (see desk.library.default_path)."""
+        self._library = library.load(path or library.default_path())
+        self._image = library.DeskImage()
+        accept(self._library.desk_empty(byref(self._image)))
+
+    # Changes
+
+    def load(self, place: int, source: Table | bytes, rater: int = 1) -> None:
+        """Fills an empty place with a table, or with the table of a rater, counted from 1, of a book's bytes. Refuses 1, 21, 2 to 11."""
+        book = encode([(source.counts, source.rows)]) if isinstance(source, Table) else as_bytes(source)
+        copied = (c_ubyte * len(book)).from_buffer_copy(book)
+        refusal = self._library.desk_load(byref(self._image), number(place, 'a place'), copied, len(book), number(rater, 'a rater'))
+        if refusal:
+            found = [each.where for each in load_refusals(book, index(rater, 'a rater')) if each.number == refusal]
+            raise Refused(refusal, found[0] if found else None)
+
+    def clear(self, place: int) -> None:
+        """Empties a loaded place. Refuses 1, 22."""
+        accept(self._library.desk_clear(byref(self._image), number(place, 'a place')))
+
+    # Questions
+
+    def compare(self) -> Verdict:
+        """Which scale is at least as good: its cheapest cutoff costs no more, whatever the prices. Refuses 22, 23, 24, 25."""
+        answer = library.DeskVerdict()
+        accept(self._library.desk_compare(byref(self._image), byref(answer)))
+        kind = Kind(answer.kind)
+        first, second = (Price(pair.u, pair.v) for pair in (answer.first_dearer, answer.second_dearer))
+        return Verdict(kind, first if kind in (Kind.SECOND, Kind.CROSSING) else None,
+                       second if kind in (Kind.FIRST, Kind.CROSSING) else None)
+
+    def cheapest(self, place: int, u: int, v: int) -> Cutoff:
+        """The cheapest cutoff, of equals the smallest, where a missed default costs u and a survivor turned away v. Refuses 1, 22, 12."""
+        prices = price(u, 'the price u'), price(v, 'the price v')
+        answer = self._asked('desk_cheapest', place, *prices, library.DeskCutoff())
+        return Cutoff(answer.cutoff, answer.cost)
+
+    def measures(self, place: int) -> Measures:
+        """D, S, Gini, the areas under the ROC and CAP curves, Pietra and its cutoff. Refuses 1, 22, 23, 24."""
+        answer = self._asked('desk_measures', place, library.DeskMeasures())
+        curves = [written(each) for each in (answer.gini, answer.roc, answer.cap, answer.pietra)]
+        return Measures(answer.defaults, answer.survivors, *curves, answer.cutoff)
+
+    def brier(self, place: int) -> WrittenFraction:
+        """The Brier score of the announced rates: their mean squared difference from the outcomes. Refuses 1, 22."""
+        return written(self._asked('desk_brier', place, library.DeskFraction()))
+
+    def spread(self, place: int) -> Spread:
+        """DS/N, and the sum of the like over the blocks. Refuses 1, 22."""
+        answer = self._asked('desk_spread', place, library.DeskSpread())
+        return Spread(answer.total, answer.residual)
+
+    def pool(self, place: int) -> list[PooledGrade]:
+        """For each grade, best first, the block that pooling puts it into. Refuses 1, 22."""
+        numbers = (c_uint32 * library.POOL_NUMBERS)()
+        self.pool_into(place, numbers)
+        return [PooledGrade(*numbers[3 * grade:3 * grade + 3]) for grade in range(self._place(place).grades)]
+
+    def write(self) -> bytes:
+        """The loaded tables, place 1 before place 2, as a book of obligors. Refuses 22."""
+        book = (c_ubyte * library.BOOK_BYTES)()
+        return bytes(book[:self.write_into(book)])
+
+    # Into lent memory
+
+    def pool_into(self, place: int, numbers: Array[c_uint32]) -> None:
+        """Pools into a ctypes array: three numbers a grade, block defaults, block obligors, band. Keeps further ones. Refuses 1, 22, 13."""
+        check_lent(numbers, c_uint32, '(c_uint32 * 120)()')
+        accept(self._library.desk_pool(byref(self._image), number(place, 'a place'), numbers, len(numbers)))
+
+    def write_into(self, book: Array[c_ubyte]) -> int:
+        """Writes the book into a ctypes array and returns its length. Keeps further bytes. Refuses 22, 13."""
+        check_lent(book, c_ubyte, '(c_ubyte * 976)()')
+        length = c_size_t()
+        accept(self._library.desk_write(byref(self._image), book, len(book), byref(length)))
+        return length.value
+
+    # What the places hold
+
+    def table(self, place: int) -> Table | None:
+        """The table in a place, by obligors; None where it is empty. Refuses 1."""
+        held = self._place(place)
+        if not held.loaded:
+            return None
+        grades = held.grades
+        return Table(obligors=held.obligors[:grades], defaults=held.defaults[:grades], announced=held.announced[:grades])
+
+    def copy(self) -> Desk:
+        """Another desk that holds the same."""
+        other = type(self)(self._library._name)
+        pointer(other._image)[0] = self._image
+        return other
+
+    __copy__ = copy
+
+    def __deepcopy__(self, memo: dict) -> Desk:
+        return self.copy()
+
+    def __repr__(self) -> str:
+        return f'Desk(place 1: {self.table(1) or "empty"}; place 2: {self.table(2) or "empty"})'
+
+    def _place(self, place: int) -> library.DeskPlace:
+        place = number(place, 'a place')
+        if place not in (1, 2):
+            raise Refused(1)
+        return self._image.first if place == 1 else self._image.second
+
+    def _asked(self, function: str, place: int, *arguments) -> Structure:
+        """What a function writes of a place into its last argument."""
+        *prices, answer = arguments
+        accept(getattr(self._library, function)(byref(self._image), number(place, 'a place'), *prices, byref(answer)))
+        return answer
+
+
+def written(fraction: library.DeskFraction) -> WrittenFraction:
+    return WrittenFraction(fraction.numerator, fraction.denominator)

@@ -1,0 +1,311 @@
+"""Tests every refusal number of every call of the Python module, in the order of the checks where two could answer. At a refusal the desk
+and all that was lent are as they were; that the watch over them sees what it has to is tested too.
+
+    python3 tests/desk/test_refusals.py     # from anywhere
+"""
+from __future__ import annotations
+
+from ctypes import addressof, c_ubyte, c_uint32, memset
+from typing import Callable
+import struct
+import sys
+import unittest
+
+sys.dont_write_bytecode = True
+from common import Scale, loaded  # noqa: E402
+from watched import Guarded, Violated, WatchedDesk, WatchedLibrary  # noqa: E402
+from books import encoded  # noqa: E402
+from desk import Refused, Table  # noqa: E402
+
+MIXED: Scale = [(10, 2), (10, 1), (20, 4)]
+NO_DEFAULTS: Scale = [(3, 0)]
+NO_SURVIVORS: Scale = [(3, 3)]
+# Numbers that are no place, rater or price, and would be one if they were cut to 4 bytes.
+NO_PLACES = (0, 3, 257, 2 ** 32 - 1, 2 ** 32 + 1, 2 ** 32 + 2, 2 ** 64 + 1, 10 ** 5000, -1, 1 - 2 ** 32, 2 - 2 ** 64)
+NO_RATERS = (0, 3, 257, 2 ** 32 - 1, 2 ** 32 + 1, 2 ** 64 + 2, 10 ** 5000, -1, 1 - 2 ** 32)
+NO_PRICES = (1_000_001, 2 ** 32 - 1, 2 ** 32, 2 ** 32 + 5, 2 ** 64 + 1, 10 ** 5000)
+# Two raters of one and two grades. Bytes 0 raters, 2 length, 4 and 6 offsets, 8 table 1 (rows from 12), 24 table 2 (rows from 28 and 40).
+PAIR = encoded([(0, [(5, 1, 7)]), (1, [(5, 1, 7), (6, 0, 8)])])
+
+
+def put(book: bytes, *changes: tuple[int, str, int]) -> bytes:
+    """The book with numbers put at bytes: where, how wide ('B', 'H' or 'I'), what."""
+    changed = bytearray(book)
+    for at, width, number in changes:
+        struct.pack_into(f'<{width}', changed, at, number)
+    return bytes(changed)
+
+
+def cut(length: int) -> bytes:
+    """The pair's first bytes, with their number for its length."""
+    return put(PAIR[:length], (2, 'H', length))
+
+
+class Case(unittest.TestCase):
+    def refused(self, number: int, desk: WatchedDesk, call: Callable[[], object]) -> Refused:
+        """The refusal of a call, seen to have this number and to leave the desk as it was."""
+        before = desk.memory.content()
+        with self.assertRaises(Refused) as raised:
+            call()
+        self.assertEqual(raised.exception.number, number, raised.exception)
+        self.assertEqual(desk.memory.content(), before)
+        return raised.exception
+
+    def load_refused(self, number: int, desk: WatchedDesk, place: int, source: Table | bytes, rater: int = 1) -> Refused:
+        lent = bytearray(source) if isinstance(source, bytes) else source
+        refusal = self.refused(number, desk, lambda: desk.load(place, lent, rater))
+        self.assertEqual(lent, source)
+        return refusal
+
+    def pool_refused(self, number: int, desk: WatchedDesk, place: int, length: int) -> None:
+        numbers = Guarded(c_uint32 * length, b'\x55' * 4 * length)
+        self.refused(number, desk, lambda: desk.pool_into(place, numbers.object))
+        self.assertEqual(numbers.content(), b'\x55' * 4 * length)
+
+    def write_refused(self, number: int, desk: WatchedDesk, length: int) -> None:
+        book = Guarded(c_ubyte * length, b'\x55' * length)
+        self.refused(number, desk, lambda: desk.write_into(book.object))
+        self.assertEqual(book.content(), b'\x55' * length)
+
+
+class Places(Case):
+    """1, 21 and 22, before whatever else is wrong."""
+
+    def questions_refused(self, number: int, desk: WatchedDesk, place: int) -> None:
+        for call in (desk.clear, desk.pool, desk.measures, desk.brier, desk.spread):
+            self.refused(number, desk, lambda: call(place))
+        for prices in ((1, 1), (NO_PRICES[0], 1), (1, NO_PRICES[-1])):
+            self.refused(number, desk, lambda: desk.cheapest(place, *prices))
+        for length in (0, 1, 120):
+            self.pool_refused(number, desk, place, length)
+
+    def test_no_such_place(self) -> None:
+        for desk in (WatchedDesk(), loaded(WatchedDesk(), MIXED, NO_DEFAULTS)):
+            for place in NO_PLACES:
+                self.questions_refused(1, desk, place)
+                self.refused(1, desk, lambda: desk.table(place))
+                for book, rater in ((PAIR, 1), (PAIR, 3), (b'', 0), (Table(obligors=[1], defaults=[0], announced=[0]), 1)):
+                    self.assertIsNone(self.load_refused(1, desk, place, book, rater).where)
+
+    def test_empty_place(self) -> None:
+        for scales, empty in (((), 1), ((), 2), ((None, MIXED), 1), ((NO_DEFAULTS, None), 2)):
+            desk = loaded(WatchedDesk(), *scales)
+            self.questions_refused(22, desk, empty)
+            self.assertIsNone(desk.table(empty))
+
+    def test_loaded_place(self) -> None:
+        desk = loaded(WatchedDesk(), MIXED, NO_DEFAULTS)
+        for place in (1, 2):
+            for book, rater in ((PAIR, 1), (PAIR, 3), (b'', 0), (Table(obligors=[1], defaults=[0], announced=[0]), 1)):
+                self.assertIsNone(self.load_refused(21, desk, place, book, rater).where)
+
+
+class Loads(Case):
+    """2 to 11, each with a fault beside it that comes later in the order."""
+
+    def see(self, number: int, book: bytes, rater: int = 1, where: str = '') -> None:
+        for place, other in ((1, (None, MIXED)), (2, (MIXED, None))):
+            refusal = self.load_refused(number, loaded(WatchedDesk(), *other), place, book, rater)
+            self.assertIn(where, refusal.where)
+
+    def test_2_length(self) -> None:
+        for length in range(4):
+            self.see(2, PAIR[:length], 1, f'byte {length}:')
+        for book in (PAIR[:-1], PAIR + b'\0', PAIR[:5], put(PAIR, (2, 'H', len(PAIR) + 1)), put(PAIR, (0, 'H', 0), (2, 'H', 0))):
+            self.see(2, book, 3, 'byte 2:')
+
+    def test_3_raters(self) -> None:
+        for raters in (0, 17, 256, 65535):
+            self.see(3, put(PAIR, (0, 'H', raters), (4, 'H', 0)), 3, 'byte 0:')
+        for length in range(4, 8):
+            self.see(3, cut(length), 3, f'byte {length}:')
+
+    def test_4_rater(self) -> None:
+        for rater in NO_RATERS:
+            self.see(4, put(PAIR, (4, 'H', 0)), rater, 'this book has 2')
+
+    def test_4_rater_of_a_table(self) -> None:
+        table = Table(obligors=[1], defaults=[0], announced=[0])
+        for rater in NO_RATERS + (2,):
+            self.load_refused(4, WatchedDesk(), 1, table, rater)
+
+    def test_5_start_and_header(self) -> None:
+        for start in (0, 7, 9, 65535):
+            self.see(5, put(PAIR, (4, 'H', start), (8, 'B', 0)), 1, 'byte 4:')
+        for length in range(8, 12):
+            self.see(5, cut(length), 2, f'byte {length}:')
+
+    def test_6_grades(self) -> None:
+        for grades in (0, 41, 255):
+            self.see(6, put(PAIR, (8, 'B', grades), (9, 'B', 2)), 2, 'byte 8:')
+            self.see(6, put(PAIR, (24, 'B', grades), (26, 'H', 1), (12, 'I', 0)), 1, 'byte 24:')
+
+    def test_7_kind_and_zeros(self) -> None:
+        for at, byte in ((9, 2), (9, 255), (10, 1), (11, 1), (11, 255)):
+            self.see(7, put(PAIR, (8, 'B', 40), (at, 'B', byte)), 2, f'byte {at}:')
+        self.see(7, put(PAIR, (9, 'B', 2), (6, 'H', 0)), 1, 'byte 9:')  # table by table: before the start of the second
+
+    def test_5_rows(self) -> None:
+        for length in range(12, 24):
+            self.see(5, cut(length), 1, f'byte {length}:')
+        self.see(5, put(PAIR, (8, 'B', 40), (6, 'H', 0)), 1, f'byte {len(PAIR)}:')
+
+    def test_5_of_the_second_table(self) -> None:
+        for start in (0, 8, 23, 25):
+            self.see(5, put(PAIR, (6, 'H', start), (24, 'B', 0)), 1, 'byte 6:')
+        for length in (*range(24, 28), *range(28, 52)):
+            self.see(5, cut(length), 1, f'byte {length}:')
+        for over in (1, 12, 1000):  # bytes left over, before the rows
+            self.see(5, put(PAIR + bytes(over), (2, 'H', len(PAIR) + over), (16, 'I', 9)), 1, f'byte {len(PAIR)}:')
+
+    def test_8_defaults(self) -> None:
+        for obligors, defaults in ((5, 6), (0, 1), (5, 2 ** 32 - 1), (1_000_001, 1_000_002)):
+            self.see(8, put(PAIR, (12, 'I', obligors), (16, 'I', defaults), (20, 'I', 1_000_001)), 1, 'byte 16 ')
+
+    def test_9_no_obligors(self) -> None:
+        self.see(9, put(PAIR, (12, 'I', 0), (16, 'I', 0), (20, 'I', 1_000_001)), 1, 'byte 12 ')
+        self.see(9, put(PAIR, (40, 'I', 0), (44, 'I', 0), (28, 'I', 2_000_000)), 2, 'byte 40 ')
+
+    def test_10_announced(self) -> None:
+        for announced in (1_000_001, 2 ** 32 - 1):
+            self.see(10, put(PAIR, (12, 'I', 1_000_001), (20, 'I', announced)), 1, 'byte 20 ')
+            self.see(10, put(PAIR, (36, 'I', announced), (40, 'I', 0), (44, 'I', 0)), 2, 'byte 36 ')  # row by row
+
+    def test_11_obligors(self) -> None:
+        self.see(11, put(PAIR, (12, 'I', 1_000_001)), 1, 'byte 12 ')
+        self.see(11, put(PAIR, (28, 'I', 999_999), (32, 'I', 0), (40, 'I', 2), (44, 'I', 0)), 2, 'byte 40 ')
+        for first, defaults in ((2 ** 32 - 1, 1), (2 ** 32 - 1, 2 ** 32 - 1), (2 ** 31, 2 ** 31), (1, 2 ** 32 - 1)):  # sums beyond 4 bytes
+            self.see(11, put(PAIR, (28, 'I', first), (32, 'I', defaults)), 2, 'byte 28 ')
+
+    def test_rows_of_the_other_rater_are_not_looked_at(self) -> None:
+        desk = WatchedDesk()
+        desk.load(1, put(PAIR, (28, 'I', 0), (32, 'I', 0)), 1)
+        desk.load(2, put(PAIR, (16, 'I', 6)), 2)
+        self.assertEqual([grade.obligors for grade in desk.table(1).grades + desk.table(2).grades], [5, 6, 6])
+
+
+class Questions(Case):
+    def test_12_prices(self) -> None:
+        desk = loaded(WatchedDesk(), MIXED, NO_DEFAULTS)
+        for place in (1, 2):
+            for price in NO_PRICES:
+                for prices in ((price, 0), (0, price), (price, 1_000_000), (price, price)):
+                    self.refused(12, desk, lambda: desk.cheapest(place, *prices))
+
+    def test_negative_prices(self) -> None:
+        for desk in (WatchedDesk(), loaded(WatchedDesk(), MIXED)):
+            for price in (-1, -2 ** 32 + 1, -2 ** 64):
+                for prices in ((price, 0), (0, price)):
+                    with self.assertRaisesRegex(ValueError, 'is 0 or more'):
+                        desk.cheapest(1, *prices)
+
+    def test_13_buffers(self) -> None:
+        desk = loaded(WatchedDesk(), NO_DEFAULTS, MIXED)
+        for length in range(9):
+            self.pool_refused(13, desk, 2, length)
+        for length in range(3):
+            self.pool_refused(13, desk, 1, length)
+        whole = len(desk.write())
+        for length in range(whole):
+            self.write_refused(13, desk, length)
+        for place, needed in ((1, 3), (2, 9)):
+            for length in (needed, needed + 1, 120):
+                numbers = Guarded(c_uint32 * length, b'\x55' * 4 * length)
+                desk.pool_into(place, numbers.object)
+                self.assertEqual(numbers.content()[4 * needed:], b'\x55' * 4 * (length - needed))
+        for length in (whole, whole + 1, 976):
+            book = Guarded(c_ubyte * length, b'\x55' * length)
+            self.assertEqual(desk.write_into(book.object), whole)
+            self.assertEqual(book.content(), desk.write() + b'\x55' * (length - whole))
+
+    def test_22_nothing_to_write(self) -> None:
+        for length in (0, 1, 976):
+            self.write_refused(22, WatchedDesk(), length)
+
+    def test_23_and_24_of_measures(self) -> None:
+        for desk in (loaded(WatchedDesk(), NO_DEFAULTS, NO_SURVIVORS), loaded(WatchedDesk(), NO_DEFAULTS, [(1, 1), (2, 2)])):
+            self.refused(23, desk, lambda: desk.measures(1))
+            self.refused(24, desk, lambda: desk.measures(2))
+
+    def test_compare(self) -> None:
+        more_survivors, fewer_defaults = [(10, 2), (10, 1), (21, 4)], [(10, 2), (10, 1), (20, 3), (1, 0)]
+        for number, one, other in ((22, NO_DEFAULTS, None), (22, NO_SURVIVORS, None), (22, None, None), (23, NO_DEFAULTS, NO_SURVIVORS),
+                                   (23, MIXED, NO_DEFAULTS), (24, MIXED, NO_SURVIVORS), (25, MIXED, more_survivors),
+                                   (25, MIXED, fewer_defaults)):
+            for scales in ((one, other), (other, one)):
+                desk = loaded(WatchedDesk(), *scales)
+                self.refused(number, desk, desk.compare)
+
+
+class Careless:
+    """A library that does one thing wrong."""
+
+    def __init__(self, real: object, name: str, wrong: Callable[..., int]):
+        self._real, self._name, self._wrong = real, name, wrong
+
+    def __getattr__(self, name: str) -> object:
+        function = getattr(self._real, name)
+        return (lambda *arguments: self._wrong(function, *arguments)) if name == self._name else function
+
+
+def smudge(lent: object, at: int) -> None:
+    """Changes a byte of what is lent, or beside it."""
+    address = addressof(getattr(lent, '_obj', lent)) + at
+    memset(address, 0x5a, 1)
+
+
+class Watch(unittest.TestCase):
+    """What a library could do wrong is seen."""
+
+    def see(self, name: str, wrong: Callable[..., int], call: Callable[[WatchedDesk], object]) -> None:
+        desk = loaded(WatchedDesk(), MIXED, MIXED)
+        call(desk)
+        desk._library = WatchedLibrary(Careless(desk._library._real, name, wrong), desk.memory)
+        with self.assertRaises(Violated):
+            call(desk)
+
+    def test_writes_beside_the_memory(self) -> None:
+        def beside(argument: int, at: int) -> Callable[..., int]:
+            def wrong(function: Callable[..., int], *arguments: object) -> int:
+                answer = function(*arguments)
+                smudge(arguments[argument], at)
+                return answer
+            return wrong
+        calls = {'pool': (1,), 'write': (), 'compare': (), 'brier': (2,), 'measures': (2,), 'spread': (1,), 'cheapest': (1, 1, 1)}
+        for name, argument, at in (('pool', 2, 480), ('pool', 2, -1), ('pool', 0, 976), ('pool', 0, -1), ('write', 1, 976), ('write', 3, 8),
+                                   ('write', 3, -8), ('compare', 1, 20), ('brier', 2, 16), ('measures', 2, 88), ('spread', 2, -1),
+                                   ('cheapest', 4, 16)):
+            self.see(f'desk_{name}', beside(argument, at), lambda desk: getattr(desk, name)(*calls[name]))
+
+    def test_a_question_that_changes_the_desk(self) -> None:
+        for at in (0, 487, 488, 975):
+            self.see('desk_spread', lambda function, image, *rest: smudge(image, at) or function(image, *rest), lambda desk: desk.spread(1))
+
+    def test_a_change_in_the_other_place(self) -> None:
+        def call(desk: WatchedDesk) -> None:
+            desk.clear(1)
+            desk.load(1, PAIR)
+        for name in ('desk_clear', 'desk_load'):
+            self.see(name, lambda function, image, *rest: smudge(image, 488) or function(image, *rest), call)
+
+    def test_writes_at_a_refusal_or_into_a_book(self) -> None:
+        def refused(call: Callable[[WatchedDesk], object]) -> Callable[[WatchedDesk], None]:
+            def called(desk: WatchedDesk) -> None:
+                try:
+                    call(desk)
+                except Refused:
+                    pass
+            return called
+
+        def wrong(argument: int) -> Callable[..., int]:
+            return lambda function, *arguments: smudge(arguments[argument], 3) or function(*arguments)
+        for name, argument, call in (('desk_load', 2, lambda desk: desk.load(1, PAIR)), ('desk_load', 0, lambda desk: desk.load(1, PAIR)),
+                                     ('desk_clear', 0, lambda desk: desk.clear(3)), ('desk_pool', 2, lambda desk: desk.pool(3)),
+                                     ('desk_cheapest', 4, lambda desk: desk.cheapest(3, 1, 1)),
+                                     ('desk_measures', 2, lambda desk: desk.measures(3)),
+                                     ('desk_write', 1, lambda desk: desk.write_into((c_ubyte * 9)()))):
+            self.see(name, wrong(argument), refused(call))
+
+
+if __name__ == '__main__':
+    unittest.main()
