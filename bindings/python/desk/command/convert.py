@@ -1,0 +1,69 @@
+"""`desk pack` and `desk unpack`: CSV files into one book, and a book into CSV."""
+from __future__ import annotations
+
+from typing import Any, Sequence
+import os
+
+from ..book import MAX_RATERS, encode
+from ..table import Table
+from . import questions
+from .files import see_apart, see_once, write_whole
+from .inputs import Source, accepted, read_source
+from .layout import counted, plain
+from .outcome import Complaint, NotTaken, Outcome, Question
+from .show import summary, summary_data
+
+
+def pack(files: Sequence[str], output: str) -> Outcome:
+    """One book of all tables of these CSV files, in this order. What load would refuse of any of them is refused, and nothing written."""
+    see_once(files)
+    see_apart(files, output)
+    sources, refusals = [], []
+    for file in files:
+        try:
+            sources.append(read_source(file))
+        except NotTaken as not_taken:
+            refusals += not_taken.refusals
+    refusals += [Complaint(None, source.file, 'this is a book already, not CSV') for source in sources if source.is_book]
+    raters = [rater for source in sources for rater in source.raters]
+    if len(raters) > MAX_RATERS:
+        refusals.append(Complaint(3, raters[MAX_RATERS].start, f'rater {MAX_RATERS + 1} starts here; a book holds at most {MAX_RATERS}'))
+    tables = accepted(raters, refusals)
+    book = encode([(table.counts, table.rows) for table in tables])
+    write_whole(output, book)
+    lines = [f'rater {number}: {summary(*each)}' for number, each in enumerate(zip(raters, tables), 1)]
+    text = '\n'.join([f'{plain(output)}: {len(book)} bytes', *lines])
+    text = text if os.path.isfile(output) else ''  # where the book went to a pipe, nothing follows it
+    data = {'command': 'pack', 'book': output, 'bytes': len(book), 'raters': [summary_data(*each) for each in zip(raters, tables)]}
+    return Outcome(text, data, asked_of(sources, tables))
+
+
+def unpack(file: str, output: str | None) -> Outcome:
+    """The tables of a book as CSV, on standard output where no file is named."""
+    see_apart([file], output)
+    source = read_source(file)
+    if not source.is_book:
+        raise NotTaken([Complaint(None, file, 'this is CSV already, not a book')])
+    tables = accepted(source.raters)
+    text = csv_of(tables)
+    if output is not None:
+        write_whole(output, text.encode())
+        text = f'{plain(output)}: {counted(len(tables), "table")}' if os.path.isfile(output) else ''
+    data = {'command': 'unpack', 'csv': output, 'tables': [table_data(table) for table in tables]}
+    return Outcome(text.rstrip('\n'), data, asked_of([source], tables))
+
+
+def table_data(table: Table) -> dict[str, Any]:
+    return {'counts': table.counts, 'rows': [dict(zip(('first', 'defaults', 'announced_ppm'), row)) for row in table.rows]}
+
+
+def asked_of(sources: Sequence[Source], tables: Sequence[Table]) -> list[Question]:
+    return [question for source in sources for question in source.questions] + \
+        [question for table in tables for question in questions.of_table(table)]
+
+
+def csv_of(tables: Sequence[Table]) -> str:
+    """The text of a CSV file that holds these tables."""
+    def lines(table: Table) -> list[str]:
+        return [f'{table.counts},defaults,announced'] + [','.join(map(str, row)) for row in table.rows]
+    return '\n\n'.join('\n'.join(lines(table)) for table in tables) + '\n'

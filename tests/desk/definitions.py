@@ -1,0 +1,126 @@
+"""Document 01's definitions, computed plainly for the tests that hold answers to them.
+
+A grade is its obligors, its defaults and its announced rate in ppm. Everything is exact: whole numbers and fractions.
+"""
+from __future__ import annotations
+
+from fractions import Fraction
+from math import floor
+from typing import List, NamedTuple, Sequence, Tuple
+
+Grades = Sequence[Tuple[int, int, int]]
+PPM = 1_000_000
+
+
+def grades_of(counts: str, rows: Grades) -> List[Tuple[int, int, int]]:
+    """The grades of a table by what its first column counts."""
+    return [(first + defaults if counts == 'survivors' else first, defaults, announced) for first, defaults, announced in rows]
+
+
+def totals(grades: Grades) -> tuple[int, int, int]:
+    """N, D and S."""
+    obligors, defaults = sum(n for n, _, _ in grades), sum(d for _, d, _ in grades)
+    return obligors, defaults, obligors - defaults
+
+
+# Cutoffs and prices
+
+def cost(grades: Grades, cutoff: int, u: int, v: int) -> int:
+    accepted, away = grades[:len(grades) - cutoff], grades[len(grades) - cutoff:]
+    return u * sum(d for _, d, _ in accepted) + v * sum(n - d for n, d, _ in away)
+
+
+def cheapest(grades: Grades, u: int, v: int) -> tuple[int, int]:
+    """The smallest cutoff that costs least, and what it costs."""
+    costs = [cost(grades, cutoff, u, v) for cutoff in range(len(grades) + 1)]
+    return costs.index(min(costs)), min(costs)
+
+
+def cheaper(first: Grades, second: Grades, u: int, v: int) -> str:
+    a, b = cheapest(first, u, v)[1], cheapest(second, u, v)[1]
+    return 'first' if a < b else 'second' if b < a else 'both'
+
+
+# Pooling
+
+class Block(NamedTuple):
+    defaults: int
+    obligors: int
+    band: int
+
+
+def pooled(grades: Grades) -> list[Block]:
+    """The block of each grade: the grades of one monotone rate, which is the largest over starts of the smallest over ends of the mean."""
+    count = range(len(grades))
+    mean = {(start, end): Fraction(sum(d for _, d, _ in grades[start:end + 1]), sum(n for n, _, _ in grades[start:end + 1]))
+            for start in count for end in range(start, len(grades))}
+    rates = [max(min(mean[start, end] for end in range(grade, len(grades))) for start in range(grade + 1)) for grade in count]
+    found = []
+    for rate in rates:
+        block = [grade for grade, other in zip(grades, rates) if other == rate]
+        found.append(Block(sum(d for _, d, _ in block), sum(n for n, _, _ in block), band(rate)))
+    return found
+
+
+def band(rate: Fraction) -> int:
+    return next((b for b in range(14) if rate <= Fraction(100 * 2 ** b, PPM)), 14)
+
+
+# Measures
+
+def pairs(grades: Grades) -> tuple[int, int, int]:
+    """C, X and T."""
+    concordant = discordant = tied = 0
+    for i, (_, d, _) in enumerate(grades):
+        for j, (n, defaults, _) in enumerate(grades):
+            both = d * (n - defaults)
+            if i > j:
+                concordant += both
+            elif i < j:
+                discordant += both
+            else:
+                tied += both
+    return concordant, discordant, tied
+
+
+def measures(grades: Grades) -> dict[str, tuple[int, int]]:
+    """Gini, ROC area, CAP area and Pietra as numerators and denominators, and Pietra's cutoff. There must be defaults and survivors."""
+    obligors, defaults, survivors = totals(grades)
+    c, x, t = pairs(grades)
+    heights = []
+    for cutoff in range(len(grades) + 1):
+        away = grades[len(grades) - cutoff:]
+        heights.append(sum(d for _, d, _ in away) * survivors - sum(n - d for n, d, _ in away) * defaults)
+    return {'gini': (c - x, defaults * survivors), 'roc': (2 * c + t, 2 * defaults * survivors),
+            'cap': (defaults * obligors + c - x, 2 * defaults * obligors), 'pietra': (max(heights), defaults * survivors),
+            'pietra_cutoff': heights.index(max(heights))}
+
+
+def measures_refusal(grades: Grades) -> int | None:
+    _, defaults, survivors = totals(grades)
+    return 23 if not defaults else 24 if not survivors else None
+
+
+def brier(grades: Grades) -> tuple[int, int]:
+    return sum(d * (PPM - p) ** 2 + (n - d) * p ** 2 for n, d, p in grades), totals(grades)[0] * 10 ** 12
+
+
+def spread(grades: Grades) -> tuple[Fraction, Fraction]:
+    """The total and the residual, which a float is near: within 1/2^36 and 1/2^29."""
+    obligors, defaults, survivors = totals(grades)
+    residual, last = Fraction(0), None
+    for block in pooled(grades):
+        if block != last:
+            residual += Fraction(block.defaults * (block.obligors - block.defaults), block.obligors)
+        last = block
+    return Fraction(defaults * survivors, obligors), residual
+
+
+# How numbers are printed
+
+def decimal(value: Fraction, places: int) -> str:
+    """The nearest decimal of so many places, the one farther from 0 of two; 0 has no sign."""
+    scaled = value * 10 ** places
+    units = min((floor(scaled), floor(scaled) + 1), key=lambda each: (abs(each - scaled), -abs(each)))
+    digits = str(abs(units)).rjust(places + 1, '0')
+    return f'{"-" if units < 0 else ""}{digits[:-places]}.{digits[-places:]}'

@@ -1,0 +1,77 @@
+"""What the command has to answer of tables, as the objects of its JSON, by document 01's definitions (definitions.py)."""
+from __future__ import annotations
+
+from fractions import Fraction
+from typing import Any, Sequence
+
+from scales import Scale
+from definitions import Grades, brier, cheaper, cheapest, decimal, measures, measures_refusal, pooled, totals
+from test_ranges import expected as ranges_by_definition
+
+
+def fraction_data(numerator: int, denominator: int) -> dict[str, Any]:
+    return {'numerator': numerator, 'denominator': denominator, 'decimal': decimal(Fraction(numerator, denominator), 6)}
+
+
+def rater_data(scale: Scale) -> dict[str, Any]:
+    obligors, defaults, survivors = totals(scale.grades)
+    return {'name': scale.name, 'file': scale.file, 'rater': scale.number, 'counts': scale.counts, 'grades': len(scale.rows),
+            'obligors': obligors, 'survivors': survivors, 'defaults': defaults}
+
+
+def measures_data(grades: Grades) -> dict[str, Any]:
+    refused = measures_refusal(grades)
+    found = {} if refused else measures(grades)
+    data: dict[str, Any] = {name: None if refused else fraction_data(*found[name]) for name in ('gini', 'roc', 'cap', 'pietra')}
+    data.update(pietra_cutoff=found.get('pietra_cutoff'), brier=fraction_data(*brier(grades)))
+    return data
+
+
+# compare
+
+def price_data(price: Sequence[int]) -> dict[str, int]:
+    return {'u': price[0], 'v': price[1]}
+
+
+def costs_data(first: Scale, second: Scale, price: Sequence[int]) -> dict[str, Any]:
+    found = {name: dict(zip(('cutoff', 'cost'), cheapest(scale.grades, *price))) for name, scale in (('first', first), ('second', second))}
+    return {**price_data(price), **found, 'cheaper': cheaper(first.grades, second.grades, *price)}
+
+
+def ranges_data(first: Scale, second: Scale) -> list[dict[str, Any]]:
+    found = ranges_by_definition(*([(n, d) for n, d, _ in scale.grades] for scale in (first, second)))
+    return [{'from': price_data(each.start), 'to': price_data(each.end), 'includes_from': each.includes_start,
+             'includes_to': each.includes_end, 'cheaper': each.cheaper} for each in found]
+
+
+def verdict_of(ranges: Sequence[dict]) -> str:
+    """The verdict: who is cheaper anywhere."""
+    found = {each['cheaper'] for each in ranges}
+    return 'crossing' if {'first', 'second'} <= found else 'first' if 'first' in found else 'second' if 'second' in found else 'equal'
+
+
+def compare_data(first: Scale, second: Scale, prices: Sequence[tuple], separating: Sequence[tuple]) -> dict[str, Any]:
+    """The whole answer save the sentence. The separating prices are free, so that they are taken from the answer."""
+    ranges = ranges_data(first, second)
+    return {'command': 'compare', 'first': rater_data(first), 'second': rater_data(second), 'verdict': verdict_of(ranges), 'ranges': ranges,
+            'separating': [costs_data(first, second, price) for price in separating],
+            'prices': [costs_data(first, second, price) for price in prices],
+            'measures': {'first': measures_data(first.grades), 'second': measures_data(second.grades)}}
+
+
+# show
+
+def grades_data(scale: Scale) -> list[dict[str, Any]]:
+    labels = scale.labels or [''] * len(scale.rows)
+    return [{'grade': number, 'label': label, 'obligors': n, 'survivors': n - d, 'defaults': d, 'announced_ppm': announced,
+             'block_defaults': block.defaults, 'block_obligors': block.obligors, 'band': block.band}
+            for number, (label, (n, d, announced), block) in enumerate(zip(labels, scale.grades, pooled(scale.grades)), 1)]
+
+
+def line_data(scale: Scale) -> dict[str, Any]:
+    """A rater of several. One without rows stands for one that is refused."""
+    if not scale.rows:
+        return {'number': scale.number, 'name': scale.name, 'rater': None, 'blocks': None, 'measures': None}
+    blocks = len({Fraction(block.defaults, block.obligors) for block in pooled(scale.grades)})
+    return {'number': scale.number, 'name': scale.name, 'rater': rater_data(scale), 'blocks': blocks,
+            'measures': measures_data(scale.grades)}
