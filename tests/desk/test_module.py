@@ -283,7 +283,7 @@ class Desks(unittest.TestCase):
     def test_memory_of_another_kind_is_not_lent(self) -> None:
         """The library would take its length in the wrong unit, or write where nothing may be written."""
         desk = loaded(Desk(), *H)
-        for memory in ((module.library.c_ubyte * 24)(), [0] * 6, bytearray(24), bytes(24), '0' * 24, None, (module.library.c_uint64 * 6)()):
+        for memory in ((module.library.c_ubyte * 24)(), [0] * 6, bytearray(24), bytes(24), '0' * 24, None, (module.library.c_int64 * 6)()):
             with self.assertRaisesRegex(TypeError, 'c_uint32'):
                 desk.pool_into(1, memory)
         for memory in ((c_uint32 * 1000)(), bytearray(1000), bytes(1000), 'x' * 1000, None):

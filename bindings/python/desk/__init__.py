@@ -29,6 +29,8 @@ from .library import LibraryMissing
 from .ranges import PriceRange, price_ranges
 from .refusals import MEANINGS, Refused
 from .table import Grade, Table
+from .version import VERSION
 
 __all__ = ['Cutoff', 'Desk', 'Grade', 'Kind', 'LibraryMissing', 'MEANINGS', 'Measures', 'PooledGrade', 'Price', 'PriceRange',
-           'Refused', 'Spread', 'Table', 'Verdict', 'WrittenFraction', 'price_ranges', 'read_book', 'write_book']
+           'Refused', 'Spread', 'Table', 'VERSION', 'Verdict', 'WrittenFraction', 'price_ranges', 'read_book', 'write_book']
+__version__ = str(VERSION)

@@ -1,11 +1,12 @@
 """The proved library for C, by ctypes: the structs and functions of include/desk.h, and where the library is found."""
 from __future__ import annotations
 
-from ctypes import CDLL, POINTER, Structure, c_double, c_int64, c_size_t, c_uint32, c_uint64, c_ubyte
+from ctypes import CDLL, POINTER, Structure, c_double, c_int64, c_size_t, c_uint32, c_ubyte
 from functools import lru_cache
 import os
 
 from .table import MAX_GRADES
+from .version import VERSION
 
 POOL_NUMBERS = 3 * MAX_GRADES  # room for whatever pool writes
 BOOK_BYTES = 976  # room for whatever write writes
@@ -23,7 +24,7 @@ class DeskImage(Structure):
 
 
 class DeskCutoff(Structure):
-    _fields_ = [('cutoff', c_uint64), ('cost', c_uint64)]
+    _fields_ = [('cutoff', c_int64), ('cost', c_int64)]
 
 
 class DeskPrice(Structure):
@@ -47,9 +48,10 @@ class DeskSpread(Structure):
     _fields_ = [('total', c_double), ('residual', c_double)]
 
 
-# What each function takes, as the header declares it; each returns a refusal number or 0.
+# What each function takes, as the header declares it; each returns a refusal number or 0, save the first, which returns the version.
 ON_A_PLACE = [POINTER(DeskImage), c_uint32]
 FUNCTIONS = {
+    'desk_version': [],
     'desk_empty': [POINTER(DeskImage)],
     'desk_load': ON_A_PLACE + [POINTER(c_ubyte), c_size_t, c_uint32],
     'desk_clear': ON_A_PLACE,
@@ -64,7 +66,7 @@ FUNCTIONS = {
 
 
 class LibraryMissing(ImportError):
-    """The shared library is not where it is looked for, or cannot be loaded."""
+    """The shared library is not where it is looked for, cannot be loaded, or is of another version than this module."""
 
 
 def repository() -> str | None:
@@ -85,9 +87,10 @@ def default_path() -> str:
 
 @lru_cache(maxsize=None)
 def load(path: str) -> CDLL:
-    """The library in a file, its functions declared."""
+    """The library in a file, its functions declared. One of another version may lay out its answers otherwise, so it is not used."""
     try:
         library = CDLL(path)
+        check_version(path, library.desk_version())
         for name, arguments in FUNCTIONS.items():
             function = getattr(library, name)
             function.argtypes, function.restype = arguments, c_uint32
@@ -95,3 +98,9 @@ def load(path: str) -> CDLL:
         raise LibraryMissing(f'{path} cannot be used ({error}). In a copy of the sources `./desk build` writes it; '
                              'elsewhere DESK_LIBRARY names the file') from None
     return library
+
+
+def check_version(path: str, version: int) -> None:
+    if version != VERSION:
+        raise LibraryMissing(f'{path} is version {version} of the library, and this module is made for version {VERSION}: '
+                             'install both from the same sources')

@@ -7,12 +7,36 @@ use lib.IntN.{ℤ, pos}
 use mir.Syntax.{w64}
 use mir.Val.{SFits, toZ, ofZ}
 use mir.ValLaws.{toZ-pos, toZ-ofZ}
+use Rattle.table.specs.Table.{Table, Sound}
+use Rattle.table.proofs.Arithmetic.{counts-le}
+use Rattle.table.proofs.Suffix.{sound-small}
+use Rattle.cutoff.specs.declared.CheapestCutoff.{CheapestCutoff}
+use Rattle.cutoff.specs.Cutoff.{cheapestOf}
+use Rattle.cutoff.proofs.Cost.{cutoff-costs, cost-le-all}
 use Rattle.measures.specs.declared.Measures.{Measures}
+use Rattle.measures.proofs.Pairs.{few-counts}
 use Rattle.measures.proofs.Sizes.{FewPairs}
-use Rattle.desk_c.specs.Numbers.{measuresNumbers}
+use Rattle.desk_c.specs.Numbers.{cutoffNumbers, measuresNumbers}
 
 pub signed : (n : ℕ) → n ≤ 1_000_000_000_000_000_000 → toZ w64 n ≡ pos n
 signed n h = toZ-pos w64 n (omega arith)
+
+-- A cheapest cutoff costs no more than turning every survivor away.
+
+pub record FewCosts (c : CheapestCutoff) : Type 0 where
+  pub cutoff : c .cutoff ≤ 40
+  pub cost : c .cost ≤ 1_000_000_000_000
+
+pub few-costs : {t : Table} (u v : ℕ) → Sound t → v ≤ 1_000_000 → FewCosts (cheapestOf t u v)
+few-costs {t} u v s priced =
+    let small = sound-small s in
+    record {
+      cutoff = omega (arith, cutoff-costs t u v .0, small .grades);
+      cost = omega (arith, cost-le-all t u v, counts-le priced (few-counts small .1));
+    }
+
+pub stores-cutoff : (c : CheapestCutoff) → FewCosts c → toZ w64 (c .cutoff) ∷ toZ w64 (c .cost) ∷ [] ≡ cutoffNumbers c
+stores-cutoff c f = rw (signed (c .cutoff) (omega (arith, f .cutoff)), signed (c .cost) (omega (arith, f .cost))) refl
 
 -- The numbers of a table's measures, each as 64 bits read as a signed number.
 abbrev pub stores : Measures → List ℤ

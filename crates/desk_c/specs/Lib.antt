@@ -1,4 +1,5 @@
 pub mod Image
 pub mod Numbers
 pub mod Private
+pub mod Version
 pub mod Claims

@@ -19,8 +19,8 @@ abbrev pub Left : {A B : Type 0} → ℕ → (A → Type 0) → (A → B) → B 
 Left {A = A} zero P numbers old new = (x : A) × P x × (new ≡ numbers x)
 Left (suc n) P numbers old new = new ≡ old
 
-abbrev pub cutoffNumbers : CheapestCutoff → List ℕ
-cutoffNumbers c = c .cutoff ∷ c .cost ∷ []
+abbrev pub cutoffNumbers : CheapestCutoff → List ℤ
+cutoffNumbers c = pos (c .cutoff) ∷ pos (c .cost) ∷ []
 
 -- what compare may answer of the desk in an image: a verdict on the tables in its two places
 abbrev pub VerdictOn : List ℕ → Verdict → Type 0

@@ -12,6 +12,7 @@ ghost use Rattle.desk.specs.Desk.{freshDesk};
 ghost use Rattle.desk.specs.Calls.{ask, compare, fill, write, change, numberOf, after, lentAfter, loadedTables};
 ghost use Rattle.desk_c.specs.Image.{imageOf, deskIn, tableOn, IsImage};
 ghost use Rattle.desk_c.specs.Numbers.{Left, cutoffNumbers, VerdictOn, verdictNumbers, measuresNumbers, fractionNumbers, spreadNumbers};
+ghost use Rattle.desk_c.specs.Version.{version};
 ghost use Rattle.desk_c.specs.Claims.{Claims};
 
 mod image;
@@ -31,6 +32,24 @@ use cutoff::Verdict;
 use desk::is_place;
 use refusals::NO_PLACE;
 use table::PLACE;
+
+const VERSION: u32 = 1;
+
+// The version of this library.
+#[no_mangle]
+pub extern "C" fn desk_version() -> u32
+    ensures { λ r. ⌜ r ≡ version ⌝ }
+{
+    VERSION
+}
+
+// The same under a name with the number in it: a header of another version asks for another name, which the linker then misses.
+#[no_mangle]
+pub extern "C" fn desk_library_is_version_1() -> u32
+    ensures { λ r. ⌜ r ≡ version ⌝ }
+{
+    desk_version()
+}
 
 // A fresh desk.
 #[no_mangle]
@@ -88,7 +107,7 @@ pub extern "C" fn desk_cheapest(
     place: u32,
     u: u32,
     v: u32,
-    answer: &mut [u64; 2],
+    answer: &mut [i64; 2],
 ) -> u32
     requires { ⌜ IsImage (now desk) ⌝ }
     ensures { λ r. ⌜ r ≡ numberOf (deskIn (now (desk .entry))) (ask place (cheapest u v)) ⌝ }
@@ -100,7 +119,7 @@ pub extern "C" fn desk_cheapest(
     let cheapest = calls::cheapest(words_at(desk, start_of(place)), u, v);
     match cheapest {
         CheapestAnswer::Cheapest(c) => {
-            *answer = [c.cutoff as u64, c.cost];
+            *answer = [c.cutoff as i64, c.cost as i64];
             0
         }
         CheapestAnswer::Refused(n) => n,

@@ -1,21 +1,26 @@
 -- `desk_cheapest` meets its contract.
+use Prim.Native.Nat.{ℕ, _≤_}
 use mathlib.Core.Path.{_≡_, refl, ap, sym, _∙_}
+use native.Mathlib.Omega.{arith}
 use borrow.Author.Needs.{needs}
 use denote.Ref.{now}
 use Rattle.table.specs.declared.Place.{Place}
 use Rattle.table.specs.Place.{tableOf}
 use Rattle.table.specs.Words.{wordsOf}
+use Rattle.book.proofs.Checks.{held, held-first}
 use Rattle.cutoff.specs.Cutoff.{cheapestOf}
 use Rattle.calls.specs.Answers.{answer, cheapestSays}
-use Rattle.calls.specs.Calls.{cheapest}
+use Rattle.calls.specs.Calls.{cheapest, questionFault}
+use Rattle.desk.specs.declared.Desk.{Desk}
 use Rattle.desk.specs.Desk.{placeAt}
 use Rattle.desk.specs.Calls.{placeFault, ask, numberOf}
 use Rattle.desk.proofs.Number.{there, missing}
-use Rattle.desk.proofs.Asked.{words-place, answered}
+use Rattle.desk.proofs.Asked.{words-place, answered, asked-sound}
 use Rattle.desk_c.specs.Image.{deskIn, tableOn}
 use Rattle.desk_c.specs.Numbers.{cutoffNumbers}
 use Rattle.desk_c.proofs.Images.{words-of}
 use Rattle.desk_c.proofs.Answered.{accepted-is, kept}
+use Rattle.desk_c.proofs.Signed.{FewCosts, few-costs, stores-cutoff}
 use Rattle.desk_c.proofs.desk_cheapest.Statement.{statement}
 use Rattle.desk_c.proofs.desk_cheapest.Tie as tie
 
@@ -37,11 +42,26 @@ says c =
     let a = start (c .before) in
     answered (deskIn (now (a .args .desk))) (a .args .place) (a .pre .sound) (at (c .before)) (here (c .before)) (cheapest (a .args .u) (a .args .v)) (λ (p : Place). (cheapestOf (tableOf p) (a .args .u) (a .args .v))) (c .cheapest .ensures)
 
+-- the accepted answer, and its size
+abbrev answer-of : tie.After-cheapest2 → tie.After-cheapest
+answer-of c = c .before .before
+
+priced : (d : Desk) (i u v : ℕ) → numberOf d (ask i (cheapest u v)) ≡ 0 → v ≤ 1_000_000
+unfolding questionFault
+priced d i u v e = held _ (held-first _ _ (held-first _ _ e .1) .1) .1 .0
+
+few : (c : tie.After-cheapest2) → FewCosts (c .cheapest2 .given .0 .0)
+few c =
+    let a = start (answer-of c .before) in
+    let e = accepted-is _ _ (ap cheapestSays (sym (c .cheapest2 .given .1)) ∙ says (answer-of c)) in
+    let n = sym (e .0) in
+    rw (e .1) (few-costs _ _ (asked-sound _ (a .pre .sound) (a .args .place) _ n) (priced _ _ _ _ n))
+
 returns-2 : tie.Need-returns-2
 returns-2 c =
-    let d = c .before .before .before .before .before in
-    let e = accepted-is _ _ (ap cheapestSays (sym (c .before .before .before .cheapest2 .given .1)) ∙ says d) in
-    (e .0, ap cutoffNumbers (e .1))
+    let k = c .before .before .before .before in
+    let e = accepted-is _ _ (ap cheapestSays (sym (k .cheapest2 .given .1)) ∙ says (answer-of k)) in
+    (e .0, stores-cutoff (k .cheapest2 .given .0 .0) (few k) ∙ ap cutoffNumbers (e .1))
 
 returns-3 : tie.Need-returns-3
 returns-3 c =
@@ -59,6 +79,7 @@ desk-cheapest-spec =
     (λ c κs. words-place _ (start c .args .place) (start c .pre .sound) (at c))
     (λ c. search needs)
     (λ c. search needs)
+    (λ c. let f = few (c .before .before .before) in record { sfits = omega arith })
     (λ c. search needs)
     returns-2
     returns-3)
