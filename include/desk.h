@@ -1,25 +1,59 @@
-/* Compares credit rating scales. Link with libdesk_c.a, which `rt staticlib desk_c` writes; x86-64 only.
+/* Compares credit rating scales: which of two over the same obligors is better, whatever prices are put on the mistakes.
+ * C11 or C++11, or later, on x86-64. Link with libdesk_c.a, which `rt staticlib desk_c` writes; where installed, with -ldesk.
  *
- * A desk has two places, 1 and 2, each empty or holding one rater's grade table, best grade first. Of a grade's n obligors
- * d defaulted and s = n - d survived; N, D and S are a table's totals. Cutoff g turns away the g worst grades: at prices
- * u and v, each default that it misses costs u and each survivor that it turns away costs v.
+ * TERMS. A rating scale sorts its obligors into grades, best first. Of a grade's n obligors d defaulted and s = n - d survived;
+ * its announced rate is the default rate that the rater states for it, in ppm (millionths: 0.5% is 5000). A grade table has
+ * 1 to 40 grades, n at least 1 and d at most n in each, and announced rates of at most 1,000,000; its totals are N, D and S, N
+ * at most 1,000,000. A desk has two places, 1 and 2, each empty or holding one rater's table.
+ * - Cutoff g, 0 to the number of grades, turns away the g worst grades. At prices u and v it costs u for each default that it
+ *   misses (in a grade that it does not turn away) and v for each survivor that it turns away.
+ * - Blocks are runs of neighbouring grades, rate = block defaults / block obligors, so cut that the rates are the monotone
+ *   regression with weights n and strictly rise from block to block: neighbours whose rates fall or are equal are joined
+ *   until none are left.
+ * - Band b of a block is the smallest b from 0 to 13 with rate at most 100 * 2^b ppm, compared without rounding; 14 if none.
+ * - Pairs are one defaulted with one surviving obligor: of C the defaulted one is in the worse grade, of X in the better, of T in
+ *   the same. Gini is (C - X) / DS, the ROC area (2C + T) / 2DS, the CAP area (DN + C - X) / 2DN. Pietra is the largest yS - xD
+ *   over all cutoffs, over DS, where a cutoff turns away y defaults and x survivors. Brier is the sum over the grades of
+ *   d(1000000 - p)^2 + sp^2, p the announced rate, over N * 10^12. Fractions have just these numerators and denominators.
+ * - A book is the tables of 1 to 16 raters in bytes, every number unsigned with its low byte first: the number R of raters and
+ *   the book's length (2 bytes each), R offsets (2 bytes each, where a rater's table starts), then the tables without gaps.
+ *   A table is its number of grades (1 byte), its kind (1 byte: what the first column counts, 0 obligors, 1 survivors), two
+ *   zero bytes, and for each grade first column, defaults, announced rate (4 bytes each). BOOK.md has one byte by byte.
  *
- * Every function returns 0 or the number of a refusal; a refusal leaves the desk and every buffer as they were.
- * All memory is the caller's: no function keeps a pointer, allocates or has state of its own, so calls on different desks
- * may run on different threads. No pointer is null, not even with length 0, and what they lend does not overlap. A desk
- * may be read and copied; desk_empty makes it, and from then on only desk_load and desk_clear may change it. */
+ * RULES. Every function but desk_version and desk_meaning returns 0, accepted, or the number of a refusal: the first that
+ * applies, in the order given under `Refuses`. Accepted, it has written what stands under `Writes`, and nothing else.
+ * Refused, it has written nothing: the desk and every buffer are as they were.
+ * All memory is the caller's: no function keeps a pointer, allocates or has state of its own, so calls on different desks may
+ * run on different threads, and calls that keep the desk on one and the same. No pointer is null, not even with length 0 (as
+ * that of an empty std::vector may be), unless said below; what they lend does not overlap.
+ * A desk may be read and copied. It starts empty, by desk_empty or as zero bytes, which are an empty desk (so `static Desk
+ * desk;` is one); from then on only desk_load, desk_load_rows and desk_clear may change it. */
 #ifndef DESK_H
 #define DESK_H
 
-#include <assert.h>
+#if defined(__cplusplus) ? __cplusplus < 201103L : !defined(__STDC_VERSION__) || __STDC_VERSION__ < 201112L
+#error "desk.h needs C11 or C++11, or later: compile with -std=c11 or -std=c++11"
+#endif
+#ifndef __x86_64__
+#error "desk.h is for x86-64, as the library is"
+#endif
+
 #include <stddef.h>
 #include <stdint.h>
+#include <string.h>
+
+/* The version of this header: one more at each landing, and CHANGELOG.md says what callers have to change. A library of another
+ * version does not link: the linker reports desk_library_is_version_N as undefined, N being the number below. Then take
+ * header and library of one version and compile again. Who loads the library at run time by hand, and so does not link with
+ * it, defines DESK_LOADED_BY_HAND before this header and compares desk_version() with DESK_VERSION. */
+#define DESK_VERSION 1
 
 #define DESK_GRADES 40            /* the most grades of a table */
 #define DESK_MAX_OBLIGORS 1000000 /* the most obligors of a table */
 #define DESK_MAX_PRICE 1000000    /* the highest price */
 #define DESK_POOL_NUMBERS 120     /* room for whatever desk_pool writes */
 #define DESK_BOOK_BYTES 976       /* room for whatever desk_write writes */
+#define DESK_TABLE_BYTES 490      /* the most bytes of a book of one table */
 
 /* The refusals: constant, number, meaning. */
 #define DESK_REFUSALS(X) \
@@ -44,52 +78,165 @@
 #define DESK_CONSTANT(constant, number, meaning) constant = number,
 enum { DESK_REFUSALS(DESK_CONSTANT) };
 
-/* Announced default rates are in ppm; loaded is 1 or 0. Entries from grades on mean nothing. */
+/* Entries of the arrays from grades on are 0, so that desks with the same tables are the same bytes; loaded is 1 or 0. */
 typedef struct DeskPlace { uint32_t obligors[DESK_GRADES], defaults[DESK_GRADES], announced[DESK_GRADES], grades, loaded; } DeskPlace;
 typedef struct Desk { DeskPlace first, second; } Desk;
-typedef struct DeskCutoff { uint64_t cutoff, cost; } DeskCutoff;
+typedef struct DeskCutoff { int64_t cutoff, cost; } DeskCutoff;
 typedef struct DeskPrice { uint32_t u, v; } DeskPrice;
 /* At least as good at all prices: both scales, the first alone, the second alone, neither. */
 enum { DESK_EQUAL, DESK_FIRST, DESK_SECOND, DESK_CROSSING };
 /* The kind, with prices at which the first costs more and prices at which the second does; 0, 0 where there are none. */
 typedef struct DeskVerdict { uint32_t kind; DeskPrice first_dearer, second_dearer; } DeskVerdict;
 typedef struct DeskFraction { int64_t numerator, denominator; } DeskFraction; /* not reduced */
-/* D, S and the measures; cutoff is the smallest with Pietra's distance. */
+/* D, S and the measures; cutoff is the smallest with Pietra's yS - xD. */
 typedef struct DeskMeasures { int64_t defaults, survivors; DeskFraction gini, roc, cap, pietra; int64_t cutoff; } DeskMeasures;
 typedef struct DeskSpread { double total, residual; } DeskSpread;
-static_assert(sizeof(Desk) == 976 && sizeof(DeskPlace) == 488 && sizeof(size_t) == 8, "as in the archive");
-static_assert(sizeof(DeskCutoff) == 16 && sizeof(DeskPrice) == 8 && sizeof(DeskVerdict) == 20, "as in the archive");
-static_assert(sizeof(DeskFraction) == 16 && sizeof(DeskMeasures) == 88 && sizeof(DeskSpread) == 16, "as in the archive");
+/* A table in memory is an array of rows, best grade first, and what their `count` counts: everybody in the grade, or
+ * everybody but the defaulted. Neither is 0 or 1, so that a forgotten one, and a book's kind in its place, are refused. */
+#ifdef __cplusplus
+enum DeskCounts : uint32_t { DESK_BY_OBLIGORS = 'o', DESK_BY_SURVIVORS = 's' };
+#else
+typedef enum DeskCounts { DESK_BY_OBLIGORS = 'o', DESK_BY_SURVIVORS = 's' } DeskCounts;
+#endif
+typedef struct DeskRow { uint32_t count, defaults, announced; } DeskRow;
+/* A book of one table: its first `length` bytes. */
+typedef struct DeskBook { uint8_t bytes[DESK_TABLE_BYTES]; size_t length; } DeskBook;
+
+/* A result that is not looked at is warned about: a verdict that was refused may read as Equal. */
+#define DESK_CHECKED __attribute__((warn_unused_result))
+#ifdef __cplusplus
+#define DESK_ASSERT static_assert
+#else
+#define DESK_ASSERT _Static_assert /* not through <assert.h>, which would set the caller's assert anew */
+#endif
+DESK_ASSERT(sizeof(Desk) == 976 && sizeof(DeskPlace) == 488 && sizeof(size_t) == 8, "as in the library");
+DESK_ASSERT(sizeof(DeskCutoff) == 16 && sizeof(DeskPrice) == 8 && sizeof(DeskVerdict) == 20, "as in the library");
+DESK_ASSERT(sizeof(DeskFraction) == 16 && sizeof(DeskMeasures) == 88 && sizeof(DeskSpread) == 16, "as in the library");
+DESK_ASSERT(sizeof(DeskRow) == 12 && sizeof(DeskBook) == 504, "as in a book");
 
 #ifdef __cplusplus
 extern "C" {
 #endif
-/* Writes an empty desk. Always 0. */
+/* The version of the library; equal to DESK_VERSION. */
+uint32_t desk_version(void);
+
+/* Empties both places, whatever the desk's bytes are.
+ * Writes: the desk, as zero bytes. Refuses nothing. */
 uint32_t desk_empty(Desk *desk);
-/* Fills an empty place with the table of a rater, 1 to R, of a book. A book's table says itself whether its first column
- * counts obligors (kind 0) or survivors (kind 1); a place holds obligors. Refuses 1, 21, 2 to 11. */
-uint32_t desk_load(Desk *desk, uint32_t place, const uint8_t *book, size_t length, uint32_t rater);
-/* Empties a loaded place. Refuses 1, 22. */
-uint32_t desk_clear(Desk *desk, uint32_t place);
-/* Writes three numbers a grade: defaults of its block, obligors of its block, band. Keeps further ones. Refuses 1, 22, 13. */
-uint32_t desk_pool(const Desk *desk, uint32_t place, uint32_t *numbers, size_t length);
-/* Writes the cheapest cutoff, among equals the smallest, and its cost. Refuses 1, 22, 12. */
-uint32_t desk_cheapest(const Desk *desk, uint32_t place, uint32_t u, uint32_t v, DeskCutoff *answer);
-/* Writes which scale is at least as good: its cheapest cutoff costs no more, whatever the prices. Refuses 22, 23, 24, 25. */
-uint32_t desk_compare(const Desk *desk, DeskVerdict *answer);
-/* Writes D, S, Gini, the areas under the ROC and CAP curves, and Pietra. Refuses 1, 22, 23, 24. */
-uint32_t desk_measures(const Desk *desk, uint32_t place, DeskMeasures *answer);
-/* Writes the Brier score of the announced rates. Refuses 1, 22. */
-uint32_t desk_brier(const Desk *desk, uint32_t place, DeskFraction *answer);
-/* Writes DS/N, and the sum of the like over the blocks. Refuses 1, 22. */
-uint32_t desk_spread(const Desk *desk, uint32_t place, DeskSpread *answer);
-/* Writes the loaded tables, place 1 first, as a book of kind 0, and its length. Keeps further bytes. Refuses 22, 13. */
-uint32_t desk_write(const Desk *desk, uint8_t *book, size_t length, size_t *written);
+
+/* Fills an empty place with the table of one rater, 1 to R, of a book. The table's kind says what its first column counts, and
+ * a place holds obligors. The dearest mistake there is: survivors taken for obligors leave every figure looking right and can
+ * make the losing scale win.
+ * Writes: the place. Keeps: the other place, the book.
+ * Refuses: 1, 21, 2, 3, 4; table by table 5 (start, header), 6, 7, 5 (rows); 5 (bytes left over); of the rater's rows, one by
+ * one, 8, 9, 10; 11. */
+uint32_t desk_load(Desk *desk, uint32_t place, const uint8_t *book, size_t length, uint32_t rater) DESK_CHECKED;
+
+/* Empties a loaded place.
+ * Writes: the place, as zero bytes. Keeps: the other place. Refuses: 1, 22. */
+uint32_t desk_clear(Desk *desk, uint32_t place) DESK_CHECKED;
+
+/* The blocks of a table and their bands.
+ * Writes: three numbers for each grade, best first: defaults of its block, obligors of its block, band of its block.
+ * Keeps: further numbers, the desk. Refuses: 1, 22, 13 (length under 3 for each grade). */
+uint32_t desk_pool(const Desk *desk, uint32_t place, uint32_t *numbers, size_t length) DESK_CHECKED;
+
+/* The cutoff that costs least at prices u and v; among equals the smallest.
+ * Writes: the answer. Keeps: the desk. Refuses: 1, 22, 12. */
+uint32_t desk_cheapest(const Desk *desk, uint32_t place, uint32_t u, uint32_t v, DeskCutoff *answer) DESK_CHECKED;
+
+/* Which scale is at least as good: its cheapest cutoff costs no more than the other's, whatever the prices.
+ * Writes: the answer. Keeps: the desk. Refuses: 22 (place 1, place 2), 23 (either), 24 (either), 25. */
+uint32_t desk_compare(const Desk *desk, DeskVerdict *answer) DESK_CHECKED;
+
+/* D, S, Gini, the areas under the ROC and CAP curves, and Pietra.
+ * Writes: the answer. Keeps: the desk. Refuses: 1, 22, 23, 24. */
+uint32_t desk_measures(const Desk *desk, uint32_t place, DeskMeasures *answer) DESK_CHECKED;
+
+/* The Brier score of the announced rates: lower is better.
+ * Writes: the answer. Keeps: the desk. Refuses: 1, 22. */
+uint32_t desk_brier(const Desk *desk, uint32_t place, DeskFraction *answer) DESK_CHECKED;
+
+/* The squared spread of the outcomes, default or not, about the table's rate and about their blocks' rates: total is within
+ * 1/2^36 of DS/N, residual within 1/2^29 of the exact sum over the blocks of block defaults times block survivors over block
+ * obligors; both in the default rounding mode, to nearest.
+ * Writes: the answer. Keeps: the desk. Refuses: 1, 22. */
+uint32_t desk_spread(const Desk *desk, uint32_t place, DeskSpread *answer) DESK_CHECKED;
+
+/* The loaded tables, place 1 before place 2, as a book of kind 0.
+ * Writes: the book, and its length to *written. Keeps: further bytes, the desk.
+ * Refuses: 22 (both places empty), 13 (length under the book's). */
+uint32_t desk_write(const Desk *desk, uint8_t *book, size_t length, size_t *written) DESK_CHECKED;
+
+/* desk_library_is_version_N, which a library of another version does not have. */
+#define DESK_PASTE(name, version) name##version
+#define DESK_NAMED(name, version) DESK_PASTE(name, version)
+#define DESK_MARKER DESK_NAMED(desk_library_is_version_, DESK_VERSION)
+uint32_t DESK_MARKER(void);
 #ifdef __cplusplus
 }
 #endif
 
-/* The meaning of a refusal number. */
+/* Every object file whose source includes this header asks for the marker, under --gc-sections too where there is `retain`. */
+#ifndef DESK_LOADED_BY_HAND
+#if defined(__has_attribute)
+#if __has_attribute(retain)
+__attribute__((retain))
+#endif
+#endif
+__attribute__((used)) static uint32_t (*const desk_wants_version)(void) = DESK_MARKER;
+#endif
+
+/* Lays out rows as a book for desk_load to judge, for the two functions below; who loads the library by hand calls this and then
+ * desk_load with rater 1. A number of grades that is refused has no rows, and a kind that is neither becomes 2. x86-64 has the
+ * bytes of a row in the book's order. Static in C++ too, as those below: no copy of another version is taken in its place. */
+static inline void desk_lay_out(DeskBook *book, DeskCounts counts, const DeskRow *rows, size_t grades)
+{
+    const size_t held = grades <= DESK_GRADES ? grades : 0;
+    memset(book->bytes, 0, 10);
+    book->length = 10 + held * sizeof(DeskRow);
+    book->bytes[0] = 1;
+    book->bytes[2] = book->length & 0xFF;
+    book->bytes[3] = book->length >> 8 & 0xFF;
+    book->bytes[4] = 6;
+    book->bytes[6] = (grades < 255 ? grades : 255) & 0xFF;
+    book->bytes[7] = counts == DESK_BY_OBLIGORS ? 0 : counts == DESK_BY_SURVIVORS ? 1 : 2;
+    if (held > 0) {
+        memcpy(book->bytes + 10, rows, held * sizeof(DeskRow));
+    }
+}
+
+/* Makes a book of one table from rows: for a file, or to load later as rater 1 with desk_load.
+ * rows has `grades` elements; with 0 or more than 40 of them none is read, and rows may be null.
+ * Writes: book->length, and as many of book->bytes. Keeps: further bytes, the rows.
+ * Refuses as desk_load of that book would: 6, 7 (counts is neither); of the rows, one by one, 8, 9, 10; 11. */
+DESK_CHECKED static inline uint32_t desk_book(DeskBook *book, DeskCounts counts, const DeskRow *rows, size_t grades)
+{
+    Desk desk;
+    DeskBook laid_out;
+    uint32_t refusal;
+    desk_lay_out(&laid_out, counts, rows, grades);
+    desk_empty(&desk);
+    refusal = desk_load(&desk, 1, laid_out.bytes, laid_out.length, 1);
+    if (refusal == 0) {
+        memcpy(book->bytes, laid_out.bytes, laid_out.length);
+        book->length = laid_out.length;
+    }
+    return refusal;
+}
+
+/* Fills an empty place with a table of rows, as desk_load does with their book.
+ * rows has `grades` elements; with 0 or more than 40 of them none is read, and rows may be null.
+ * Writes: the place. Keeps: the other place, the rows.
+ * Refuses: 1, 21, 6, 7 (counts is neither); of the rows, one by one, 8, 9, 10; 11. */
+DESK_CHECKED static inline uint32_t desk_load_rows(Desk *desk, uint32_t place, DeskCounts counts, const DeskRow *rows, size_t grades)
+{
+    DeskBook laid_out;
+    desk_lay_out(&laid_out, counts, rows, grades);
+    return desk_load(desk, place, laid_out.bytes, laid_out.length, 1);
+}
+
+/* The meaning of a refusal number, in words. */
 #define DESK_CASE(constant, number, meaning) case number: return meaning;
 static inline const char *desk_meaning(uint32_t number)
 {

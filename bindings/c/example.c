@@ -32,7 +32,7 @@ static void say_costs(const Desk *desk, DeskPrice price)
     accept_or_exit("cheapest", desk_cheapest(desk, 1, price.u, price.v, &first));
     accept_or_exit("cheapest", desk_cheapest(desk, 2, price.u, price.v, &second));
     printf("At %" PRIu32 " for a missed default and %" PRIu32 " for a survivor turned away", price.u, price.v);
-    printf(" the first costs %" PRIu64 " and the second %" PRIu64 ".\n", first.cost, second.cost);
+    printf(" the first costs %" PRId64 " and the second %" PRId64 ".\n", first.cost, second.cost);
 }
 
 int main(int count, char **words)

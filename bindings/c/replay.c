@@ -117,7 +117,7 @@ static bool cheapest(Desk *desk)
     }
     DeskCutoff answer;
     if (say("cheapest", desk_cheapest(desk, place, u, v, &answer))) {
-        printf(" %" PRIu64 " %" PRIu64, answer.cutoff, answer.cost);
+        printf(" %" PRId64 " %" PRId64, answer.cutoff, answer.cost);
     }
     return true;
 }

@@ -5,13 +5,9 @@
 #include <stdio.h>
 #include <string.h>
 
-typedef struct {
-    uint32_t obligors, defaults;
-} Grade;
-
-/* A list of grades and its length, as two arguments. */
-#define TABLE(...) (const Grade[]){__VA_ARGS__}, sizeof((const Grade[]){__VA_ARGS__}) / sizeof(Grade)
-#define TABLE_E TABLE({30, 2}, {18, 4}, {15, 10}, {16, 14}, {21, 20})
+/* A list of rows, each obligors, defaults and announced rate, and its length, as two arguments. */
+#define TABLE(...) (const DeskRow[]){__VA_ARGS__}, sizeof((const DeskRow[]){__VA_ARGS__}) / sizeof(DeskRow)
+#define TABLE_E TABLE({30, 2, 0}, {18, 4, 0}, {15, 10, 0}, {16, 14, 0}, {21, 20, 0})
 #define HOLDS(fact) holds(fact, #fact, __LINE__)
 
 static int failures = 0;
@@ -24,50 +20,25 @@ static void holds(bool fact, const char *text, int line)
     }
 }
 
-static uint8_t *put_number(uint8_t *at, uint32_t number, int bytes)
+static uint32_t load(Desk *desk, uint32_t place, const DeskRow *rows, size_t grades)
 {
-    for (int i = 0; i < bytes; i++) {
-        *at++ = (uint8_t)(number >> 8 * i);
-    }
-    return at;
-}
-
-/* A book of one rater, kind 0, announced rates 0. Returns its length. */
-static size_t put_book(uint8_t *book, const Grade *grades, size_t count)
-{
-    size_t length = 10 + 12 * count;
-    uint8_t *at = put_number(book, 1, 2);
-    at = put_number(at, (uint32_t)length, 2);
-    at = put_number(at, 6, 2);
-    at = put_number(at, (uint32_t)count, 4);
-    for (size_t i = 0; i < count; i++) {
-        at = put_number(at, grades[i].obligors, 4);
-        at = put_number(at, grades[i].defaults, 4);
-        at = put_number(at, 0, 4);
-    }
-    return length;
-}
-
-static uint32_t load(Desk *desk, uint32_t place, const Grade *grades, size_t count)
-{
-    uint8_t book[2 * DESK_BOOK_BYTES];
-    return desk_load(desk, place, book, put_book(book, grades, count), 1);
+    return desk_load_rows(desk, place, DESK_BY_OBLIGORS, rows, grades);
 }
 
 /* A desk with a table in place 1. */
-static Desk desk_of(const Grade *grades, size_t count)
+static Desk desk_of(const DeskRow *rows, size_t grades)
 {
     Desk desk;
     HOLDS(desk_empty(&desk) == 0);
-    HOLDS(load(&desk, 1, grades, count) == 0);
+    HOLDS(load(&desk, 1, rows, grades) == 0);
     return desk;
 }
 
-static uint32_t load_alone(const Grade *grades, size_t count)
+static uint32_t load_alone(const DeskRow *rows, size_t grades)
 {
     Desk desk;
     desk_empty(&desk);
-    return load(&desk, 2, grades, count);
+    return load(&desk, 2, rows, grades);
 }
 
 static bool is(DeskFraction fraction, int64_t numerator, int64_t denominator)
@@ -86,9 +57,9 @@ static bool pools_as_one(Desk desk, uint32_t defaults, uint32_t obligors)
     return pooled;
 }
 
-static uint64_t cost(const Desk *desk, uint32_t place, DeskPrice price)
+static int64_t cost(const Desk *desk, uint32_t place, DeskPrice price)
 {
-    DeskCutoff cheapest = {0, UINT64_MAX};
+    DeskCutoff cheapest = {0, INT64_MAX};
     HOLDS(desk_cheapest(desk, place, price.u, price.v, &cheapest) == 0);
     return cheapest.cost;
 }
@@ -109,6 +80,9 @@ static void a_book_k(void)
 {
     Desk desk;
     desk_empty(&desk);
+    DeskBook laid_out;
+    HOLDS(desk_book(&laid_out, DESK_BY_OBLIGORS, TABLE({10, 2, 100000}, {10, 1, 150000}, {20, 4, 200000})) == 0);
+    HOLDS(laid_out.length == sizeof book_k && memcmp(laid_out.bytes, book_k, sizeof book_k) == 0);
     HOLDS(desk_load(&desk, 1, book_k, 45, 1) == DESK_REFUSED_LENGTH);
     HOLDS(desk_load(&desk, 1, book_k, 46, 1) == 0);
     HOLDS(desk.first.loaded == 1 && desk.second.loaded == 0);
@@ -119,6 +93,7 @@ static void a_book_k(void)
     HOLDS(memcmp(numbers, pooled, sizeof pooled) == 0);
     DeskMeasures measures;
     HOLDS(desk_measures(&desk, 1, &measures) == 0 && is(measures.gini, 10, 231));
+    HOLDS(measures.defaults == 7 && measures.survivors == 33);
     DeskFraction brier;
     HOLDS(desk_brier(&desk, 1, &brier) == 0 && is(brier, 5825000000000, 40000000000000));
     DeskSpread spread;
@@ -133,9 +108,9 @@ static void a_book_k(void)
 
 static void b_c_d_pooling(void)
 {
-    HOLDS(pools_as_one(desk_of(TABLE({10, 2}, {20, 4})), 6, 30));
-    HOLDS(pools_as_one(desk_of(TABLE({10, 3}, {10, 4}, {10, 1})), 8, 30));
-    HOLDS(pools_as_one(desk_of(TABLE({90, 18}, {10, 1})), 19, 100));
+    HOLDS(pools_as_one(desk_of(TABLE({10, 2, 0}, {20, 4, 0})), 6, 30));
+    HOLDS(pools_as_one(desk_of(TABLE({10, 3, 0}, {10, 4, 0}, {10, 1, 0})), 8, 30));
+    HOLDS(pools_as_one(desk_of(TABLE({90, 18, 0}, {10, 1, 0})), 19, 100));
 }
 
 static void e_five_grades(void)
@@ -156,7 +131,7 @@ static void e_five_grades(void)
 
 static void f_reversed(void)
 {
-    Desk desk = desk_of(TABLE({2, 2}, {2, 0}));
+    Desk desk = desk_of(TABLE({2, 2, 0}, {2, 0, 0}));
     DeskMeasures measures;
     HOLDS(desk_measures(&desk, 1, &measures) == 0);
     HOLDS(is(measures.gini, -4, 4) && is(measures.pietra, 0, 4) && measures.cutoff == 0);
@@ -164,14 +139,14 @@ static void f_reversed(void)
 
 static void g_first_and_second(void)
 {
-    Desk desk = desk_of(TABLE({2, 0}, {2, 1}, {2, 2}));
-    HOLDS(load(&desk, 2, TABLE({3, 1}, {3, 2})) == 0);
+    Desk desk = desk_of(TABLE({2, 0, 0}, {2, 1, 0}, {2, 2, 0}));
+    HOLDS(load(&desk, 2, TABLE({3, 1, 0}, {3, 2, 0})) == 0);
     DeskVerdict verdict = verdict_of(&desk);
     HOLDS(verdict.kind == DESK_FIRST);
     HOLDS(cost(&desk, 1, verdict.second_dearer) < cost(&desk, 2, verdict.second_dearer));
 
-    desk = desk_of(TABLE({3, 1}, {3, 2}));
-    HOLDS(load(&desk, 2, TABLE({2, 0}, {2, 1}, {2, 2})) == 0);
+    desk = desk_of(TABLE({3, 1, 0}, {3, 2, 0}));
+    HOLDS(load(&desk, 2, TABLE({2, 0, 0}, {2, 1, 0}, {2, 2, 0})) == 0);
     verdict = verdict_of(&desk);
     HOLDS(verdict.kind == DESK_SECOND);
     HOLDS(cost(&desk, 1, verdict.first_dearer) > cost(&desk, 2, verdict.first_dearer));
@@ -179,8 +154,8 @@ static void g_first_and_second(void)
 
 static void h_crossing(void)
 {
-    Desk desk = desk_of(TABLE({5, 2}, {1, 1}));
-    HOLDS(load(&desk, 2, TABLE({2, 0}, {4, 3})) == 0);
+    Desk desk = desk_of(TABLE({5, 2, 0}, {1, 1, 0}));
+    HOLDS(load(&desk, 2, TABLE({2, 0, 0}, {4, 3, 0})) == 0);
     DeskVerdict verdict = verdict_of(&desk);
     HOLDS(verdict.kind == DESK_CROSSING);
     HOLDS(cost(&desk, 1, verdict.first_dearer) > cost(&desk, 2, verdict.first_dearer));
@@ -199,25 +174,37 @@ static void i_equal(void)
 
 static void k_limits(void)
 {
-    HOLDS(load_alone(TABLE({DESK_MAX_OBLIGORS, 1})) == 0);
-    HOLDS(load_alone(TABLE({DESK_MAX_OBLIGORS + 1, 1})) == DESK_REFUSED_OBLIGORS);
-    HOLDS(load_alone(TABLE({1, 0})) == 0);
-    HOLDS(load_alone(TABLE({0, 0})) == DESK_REFUSED_NO_OBLIGORS);
-    Grade grades[DESK_GRADES + 1];
+    HOLDS(load_alone(TABLE({DESK_MAX_OBLIGORS, 1, 0})) == 0);
+    HOLDS(load_alone(TABLE({DESK_MAX_OBLIGORS + 1, 1, 0})) == DESK_REFUSED_OBLIGORS);
+    HOLDS(load_alone(TABLE({1, 0, 0})) == 0);
+    HOLDS(load_alone(TABLE({0, 0, 0})) == DESK_REFUSED_NO_OBLIGORS);
+    DeskRow rows[DESK_GRADES + 1];
     for (size_t i = 0; i <= DESK_GRADES; i++) {
-        grades[i] = (Grade){1, 0};
+        rows[i] = (DeskRow){1, 0, 0};
     }
-    HOLDS(load_alone(grades, DESK_GRADES) == 0);
-    HOLDS(load_alone(grades, DESK_GRADES + 1) == DESK_REFUSED_GRADES);
-    Desk desk = desk_of(TABLE({1, 0}));
+    HOLDS(load_alone(rows, DESK_GRADES) == 0);
+    HOLDS(load_alone(rows, DESK_GRADES + 1) == DESK_REFUSED_GRADES);
+    Desk desk = desk_of(TABLE({1, 0, 0}));
     DeskCutoff cheapest;
     HOLDS(desk_cheapest(&desk, 1, DESK_MAX_PRICE, DESK_MAX_PRICE, &cheapest) == 0);
     HOLDS(desk_cheapest(&desk, 1, DESK_MAX_PRICE + 1, 0, &cheapest) == DESK_REFUSED_PRICE);
     HOLDS(desk_cheapest(&desk, 1, 0, DESK_MAX_PRICE + 1, &cheapest) == DESK_REFUSED_PRICE);
 }
 
+/* The library is the header's, and a desk of zero bytes is an empty one. */
+static void version_and_empty_desk(void)
+{
+    static const Desk zero;
+    Desk desk;
+    memset(&desk, 0xA5, sizeof desk);
+    HOLDS(desk_version() == DESK_VERSION && DESK_MARKER() == DESK_VERSION);
+    HOLDS(desk_empty(&desk) == 0 && memcmp(&desk, &zero, sizeof desk) == 0);
+    HOLDS(load(&desk, 2, TABLE_E) == 0 && desk_clear(&desk, 2) == 0 && memcmp(&desk, &zero, sizeof desk) == 0);
+}
+
 int main(void)
 {
+    version_and_empty_desk();
     a_book_k();
     b_c_d_pooling();
     e_five_grades();
