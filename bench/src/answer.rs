@@ -57,14 +57,14 @@ macro_rules! uniform {
 uniform! {
     (): |()| Answer::Done;
     usize: |length| Answer::Numbers(vec![length as i64]);
-    proved::Cutoff: |c| Answer::Numbers(vec![c.cutoff as i64, c.cost as i64]);
+    proved::Cutoff: |c| Answer::Numbers(vec![c.cutoff, c.cost]);
     plain::Cheapest: |c| Answer::Numbers(vec![c.cutoff.into(), c.cost as i64]);
     (u32, u64): |(cutoff, cost)| Answer::Numbers(vec![cutoff.into(), cost as i64]);
-    proved::Fraction: |f| Answer::Numbers(vec![f.numerator, f.denominator]);
+    proved::Fraction: |f| Answer::Numbers(vec![f.numerator(), f.denominator()]);
     plain::Fraction: |f| Answer::Numbers(vec![f.numerator, f.denominator]);
     (u64, u64): |(numerator, denominator)| Answer::Numbers(vec![numerator as i64, denominator as i64]);
     proved::Measures: |m| {
-        let fractions = [m.gini, m.roc, m.cap, m.pietra].map(|f| (f.numerator, f.denominator));
+        let fractions = [m.gini, m.roc, m.cap, m.pietra].map(proved::Fraction::written);
         measures(m.defaults, m.survivors, fractions, m.cutoff)
     };
     plain::Measures: |m| {

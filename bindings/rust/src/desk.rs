@@ -1,28 +1,21 @@
 //! The calls on a desk.
 
-use crate::answer::{Cutoff, Fraction, Grade, Measures, PooledGrade, Price, Spread, Verdict};
-use crate::refusal::Refusal;
+use crate::answer::{Cutoff, Grade, Measures, PooledGrade, Price, Spread};
+use crate::fraction::Fraction;
+use crate::place::Place;
+use crate::refusal::{Refusal, UnknownNumber};
 use crate::sys::{self, Desk, Rows};
+use crate::table::{self, Table};
+use crate::verdict::Verdict;
 use crate::{BOOK_BYTES, POOL_NUMBERS};
 use std::fmt;
-
-/// A place of a desk. Of two compared scales the first is the one in the first place.
-#[derive(Clone, Copy, Debug, PartialEq, Eq, Hash)]
-pub enum Place {
-    /// Place 1.
-    First = 1,
-    /// Place 2.
-    Second = 2,
-}
+use std::slice;
 
 /// What a refusal number says; 0 is acceptance.
 fn accepted(number: u32) -> Result<(), Refusal> {
     match number {
         0 => Ok(()),
-        _ => {
-            Err(Refusal::of_number(number)
-                .unwrap_or_else(|| not_of_this_version("refusal", number)))
-        }
+        _ => Err(Refusal::try_from(number).unwrap_or_else(|unknown| not_proved(unknown))),
     }
 }
 
@@ -33,44 +26,96 @@ fn answered<T: Default>(call: impl FnOnce(&mut T) -> u32) -> Result<T, Refusal> 
     Ok(answer)
 }
 
-/// The archive is proved to answer nothing else, so it must be one of another version.
-fn not_of_this_version(what: &str, number: u32) -> ! {
-    panic!("libdesk_c.a answers {what} {number}, which this version of the crate does not know")
-}
-
-impl From<sys::Verdict> for Verdict {
-    fn from(verdict: sys::Verdict) -> Verdict {
-        let sys::Verdict {
-            kind,
-            first_dearer,
-            second_dearer,
-        } = verdict;
-        match kind {
-            0 => Verdict::Equal,
-            1 => Verdict::First { second_dearer },
-            2 => Verdict::Second { first_dearer },
-            3 => Verdict::Crossing {
-                first_dearer,
-                second_dearer,
-            },
-            _ => not_of_this_version("verdict", kind),
-        }
-    }
+/// The library of this version is proved to answer nothing of the kind.
+fn not_proved(unknown: UnknownNumber) -> ! {
+    panic!("the library that was linked is not the proved one: {unknown}")
 }
 
 impl Desk {
-    /// Fills an empty place with the table of a rater, counted from 1, of a book. The table says
-    /// itself whether its first column counts obligors or survivors.
+    /// Fills an empty place with the table of a rater, counted from 1, of a book: a file in the byte
+    /// format of `BOOK.md` (in `share/doc/desk` where installed, `docs` in the sources). The table
+    /// says itself whether its first column counts obligors or survivors.
+    ///
+    /// ```
+    /// use desk::{Desk, Place, Refusal, Table};
+    ///
+    /// let book = Table::book(&[Table::by_obligors().grade(5, 2, 400_000).grade(1, 1, 1_000_000)])?;
+    /// let mut desk = Desk::empty();
+    /// desk.load(Place::First, &book, 1)?;
+    /// assert_eq!(desk.load(Place::First, &book, 1), Err(Refusal::Loaded));
+    /// assert_eq!(desk.load(Place::Second, &book, 2), Err(Refusal::Rater));
+    /// # Ok::<(), desk::Refusal>(())
+    /// ```
+    ///
+    /// # Errors
+    ///
+    /// 21 ([`Refusal::Loaded`]), 2 ([`Refusal::Length`]), 3 ([`Refusal::Raters`]),
+    /// 4 ([`Refusal::Rater`]); then table by table 5 ([`Refusal::Layout`]) of its start and header,
+    /// 6 ([`Refusal::Grades`]), 7 ([`Refusal::Kind`]), 5 ([`Refusal::Layout`]) of its rows; then
+    /// 5 ([`Refusal::Layout`]) of bytes left over; then row by row of this rater
+    /// 8 ([`Refusal::Defaults`]), 9 ([`Refusal::NoObligors`]), 10 ([`Refusal::Announced`]); then
+    /// 11 ([`Refusal::Obligors`]).
     pub fn load(&mut self, place: Place, book: &[u8], rater: u32) -> Result<(), Refusal> {
-        accepted(sys::load(self, place as u32, book, rater))
+        accepted(sys::load(self, place.into(), book, rater))
+    }
+
+    /// Fills an empty place with a table in memory.
+    ///
+    /// ```
+    /// use desk::{Desk, Place, Refusal, Table};
+    ///
+    /// let mut desk = Desk::empty();
+    /// desk.load_table(Place::First, &Table::by_obligors().grade(5, 2, 400_000))?;
+    /// let upside_down = Table::by_obligors().grade(2, 5, 400_000);
+    /// assert_eq!(desk.load_table(Place::Second, &upside_down), Err(Refusal::Defaults));
+    /// assert_eq!(desk.load_table(Place::First, &upside_down), Err(Refusal::Loaded));
+    /// # Ok::<(), desk::Refusal>(())
+    /// ```
+    ///
+    /// # Errors
+    ///
+    /// As [`load`](Desk::load) of a book with this table: 21 ([`Refusal::Loaded`]),
+    /// 6 ([`Refusal::Grades`]); then row by row 8 ([`Refusal::Defaults`]) (by obligors only),
+    /// 9 ([`Refusal::NoObligors`]), 10 ([`Refusal::Announced`]); then 11 ([`Refusal::Obligors`]).
+    pub fn load_table(&mut self, place: Place, table: &Table) -> Result<(), Refusal> {
+        self.load(place, &table::bytes(slice::from_ref(table)), 1)
     }
 
     /// Empties a loaded place.
+    ///
+    /// ```
+    /// use desk::{Desk, Place, Table};
+    ///
+    /// let mut desk = Desk::empty();
+    /// desk.load_table(Place::First, &Table::by_obligors().grade(5, 2, 400_000))?;
+    /// desk.clear(Place::First)?;
+    /// assert_eq!(desk, Desk::empty());
+    /// # Ok::<(), desk::Refusal>(())
+    /// ```
+    ///
+    /// # Errors
+    ///
+    /// 22 ([`Refusal::Empty`]).
     pub fn clear(&mut self, place: Place) -> Result<(), Refusal> {
-        accepted(sys::clear(self, place as u32))
+        accepted(sys::clear(self, place.into()))
     }
 
     /// For each grade of the table in a place, best first, the block that pooling puts it into.
+    ///
+    /// ```
+    /// use desk::{Desk, Place, Table};
+    ///
+    /// let rows = [(10, 2, 100_000), (10, 1, 150_000), (20, 4, 200_000)];
+    /// let mut desk = Desk::empty();
+    /// desk.load_table(Place::First, &Table::by_obligors().grades(rows))?;
+    /// let rates: Vec<_> = desk.pool(Place::First)?.into_iter().map(|grade| grade.rate().written()).collect();
+    /// assert_eq!(rates, [(3, 20), (3, 20), (4, 20)]);
+    /// # Ok::<(), desk::Refusal>(())
+    /// ```
+    ///
+    /// # Errors
+    ///
+    /// 22 ([`Refusal::Empty`]).
     pub fn pool(&self, place: Place) -> Result<Vec<PooledGrade>, Refusal> {
         let mut numbers = [0; POOL_NUMBERS];
         self.pool_into(place, &mut numbers)?;
@@ -84,37 +129,138 @@ impl Desk {
     }
 
     /// The same as three numbers a grade, in memory that is lent: block defaults, block obligors,
-    /// band. Further numbers are kept.
+    /// band. Further numbers are kept. [`POOL_NUMBERS`] are enough for any table.
+    ///
+    /// ```
+    /// use desk::{Desk, Place, Table};
+    ///
+    /// let mut desk = Desk::empty();
+    /// desk.load_table(Place::First, &Table::by_obligors().grade(10, 2, 0).grade(20, 4, 0))?;
+    /// let mut numbers = [7; 7];
+    /// desk.pool_into(Place::First, &mut numbers)?;
+    /// assert_eq!(numbers, [6, 30, 11, 6, 30, 11, 7]);
+    /// # Ok::<(), desk::Refusal>(())
+    /// ```
+    ///
+    /// # Errors
+    ///
+    /// 22 ([`Refusal::Empty`]), 13 ([`Refusal::Buffer`]).
     pub fn pool_into(&self, place: Place, numbers: &mut [u32]) -> Result<(), Refusal> {
-        accepted(sys::pool(self, place as u32, numbers))
+        accepted(sys::pool(self, place.into(), numbers))
     }
 
     /// The cheapest cutoff of the table in a place; among equals, the smallest.
+    ///
+    /// ```
+    /// use desk::{Cutoff, Desk, Place, Price, Table};
+    ///
+    /// let mut desk = Desk::empty();
+    /// desk.load_table(Place::First, &Table::by_obligors().grade(5, 2, 400_000).grade(1, 1, 1_000_000))?;
+    /// let cheapest = desk.cheapest(Place::First, Price { u: 1, v: 3 })?;
+    /// assert_eq!(cheapest, Cutoff { cutoff: 1, cost: 2 });
+    /// # Ok::<(), desk::Refusal>(())
+    /// ```
+    ///
+    /// # Errors
+    ///
+    /// 22 ([`Refusal::Empty`]), 12 ([`Refusal::Price`]).
     pub fn cheapest(&self, place: Place, price: Price) -> Result<Cutoff, Refusal> {
-        answered(|answer| sys::cheapest(self, place as u32, price.u, price.v, answer))
+        answered(|answer| sys::cheapest(self, place.into(), price.u, price.v, answer))
     }
 
     /// Which of the two scales is at least as good as the other.
+    ///
+    /// ```
+    /// use desk::{Desk, Place, Table, Verdict};
+    ///
+    /// let mut desk = Desk::empty();
+    /// desk.load_table(Place::First, &Table::by_obligors().grade(5, 2, 400_000).grade(1, 1, 1_000_000))?;
+    /// desk.load_table(Place::Second, &Table::by_survivors().grade(2, 0, 0).grade(1, 3, 750_000))?;
+    /// assert!(matches!(desk.compare()?, Verdict::Crossing { .. }));
+    /// # Ok::<(), desk::Refusal>(())
+    /// ```
+    ///
+    /// # Errors
+    ///
+    /// 22 ([`Refusal::Empty`]), 23 ([`Refusal::NoDefaults`]), 24 ([`Refusal::NoSurvivors`]),
+    /// 25 ([`Refusal::Unlike`]).
+    ///
+    /// # Panics
+    ///
+    /// Never with the proved library, which answers one of the four verdicts.
     pub fn compare(&self) -> Result<Verdict, Refusal> {
-        answered(|answer| sys::compare(self, answer)).map(Verdict::from)
+        let verdict: sys::Verdict = answered(|answer| sys::compare(self, answer))?;
+        Ok(Verdict::try_from(verdict).unwrap_or_else(|unknown| not_proved(unknown)))
     }
 
     /// D, S and the curve measures of the table in a place.
+    ///
+    /// ```
+    /// use desk::{Desk, Place, Table};
+    ///
+    /// let mut desk = Desk::empty();
+    /// desk.load_table(Place::First, &Table::by_obligors().grade(5, 2, 400_000).grade(1, 1, 1_000_000))?;
+    /// assert_eq!(desk.measures(Place::First)?.gini.to_string(), "0.333333 (3/9)");
+    /// # Ok::<(), desk::Refusal>(())
+    /// ```
+    ///
+    /// # Errors
+    ///
+    /// 22 ([`Refusal::Empty`]), 23 ([`Refusal::NoDefaults`]), 24 ([`Refusal::NoSurvivors`]).
     pub fn measures(&self, place: Place) -> Result<Measures, Refusal> {
-        answered(|answer| sys::measures(self, place as u32, answer))
+        answered(|answer| sys::measures(self, place.into(), answer))
     }
 
     /// The Brier score of the announced rates: their mean squared difference from the outcomes.
+    ///
+    /// ```
+    /// use desk::{Desk, Place, Table};
+    ///
+    /// let mut desk = Desk::empty();
+    /// desk.load_table(Place::First, &Table::by_obligors().grade(2, 1, 500_000))?;
+    /// assert_eq!(format!("{:.2}", desk.brier(Place::First)?), "0.25 (500000000000/2000000000000)");
+    /// # Ok::<(), desk::Refusal>(())
+    /// ```
+    ///
+    /// # Errors
+    ///
+    /// 22 ([`Refusal::Empty`]).
     pub fn brier(&self, place: Place) -> Result<Fraction, Refusal> {
-        answered(|answer| sys::brier(self, place as u32, answer))
+        answered(|answer| sys::brier(self, place.into(), answer))
     }
 
     /// The spread of the outcomes, in all and within the blocks.
+    ///
+    /// ```
+    /// use desk::{Desk, Place, Table};
+    ///
+    /// let mut desk = Desk::empty();
+    /// desk.load_table(Place::First, &Table::by_obligors().grade(5, 2, 400_000).grade(1, 1, 1_000_000))?;
+    /// assert_eq!(format!("{:.1}", desk.spread(Place::First)?), "1.5 in all, 1.2 within the blocks");
+    /// # Ok::<(), desk::Refusal>(())
+    /// ```
+    ///
+    /// # Errors
+    ///
+    /// 22 ([`Refusal::Empty`]).
     pub fn spread(&self, place: Place) -> Result<Spread, Refusal> {
-        answered(|answer| sys::spread(self, place as u32, answer))
+        answered(|answer| sys::spread(self, place.into(), answer))
     }
 
     /// The loaded tables, the first place's before the second's, as a book of obligors.
+    ///
+    /// ```
+    /// use desk::{Desk, Place, Table};
+    ///
+    /// let mut desk = Desk::empty();
+    /// desk.load_table(Place::Second, &Table::by_survivors().grade(1, 3, 750_000))?;
+    /// assert_eq!(desk.write()?, Table::book(&[Table::by_obligors().grade(4, 3, 750_000)])?);
+    /// # Ok::<(), desk::Refusal>(())
+    /// ```
+    ///
+    /// # Errors
+    ///
+    /// 22 ([`Refusal::Empty`]), where both places are empty.
     pub fn write(&self) -> Result<Vec<u8>, Refusal> {
         let mut book = vec![0; BOOK_BYTES];
         let length = self.write_into(&mut book)?;
@@ -123,16 +269,54 @@ impl Desk {
     }
 
     /// The same in memory that is lent, with the book's length. Further bytes are kept.
+    /// [`BOOK_BYTES`] are enough for any desk.
+    ///
+    /// ```
+    /// use desk::{Desk, Place, Table};
+    ///
+    /// let mut desk = Desk::empty();
+    /// desk.load_table(Place::First, &Table::by_obligors().grade(4, 3, 750_000))?;
+    /// let mut book = [0; desk::BOOK_BYTES];
+    /// let length = desk.write_into(&mut book)?;
+    /// assert_eq!(book[..length], desk.write()?);
+    /// # Ok::<(), desk::Refusal>(())
+    /// ```
+    ///
+    /// # Errors
+    ///
+    /// 22 ([`Refusal::Empty`]), where both places are empty; 13 ([`Refusal::Buffer`]).
     pub fn write_into(&self, book: &mut [u8]) -> Result<usize, Refusal> {
         answered(|written| sys::write(self, book, written))
     }
 
     /// Whether a place holds a table.
+    ///
+    /// ```
+    /// use desk::{Desk, Place, Table};
+    ///
+    /// let mut desk = Desk::empty();
+    /// desk.load_table(Place::First, &Table::by_obligors().grade(4, 3, 750_000))?;
+    /// assert!(desk.is_loaded(Place::First) && !desk.is_loaded(Place::Second));
+    /// # Ok::<(), desk::Refusal>(())
+    /// ```
+    #[must_use]
     pub fn is_loaded(&self, place: Place) -> bool {
         self.rows(place).loaded != 0
     }
 
     /// The grades of the table in a place, best first; none if it is empty.
+    ///
+    /// ```
+    /// use desk::{Desk, Grade, Place, Table};
+    ///
+    /// let mut desk = Desk::empty();
+    /// desk.load_table(Place::First, &Table::by_survivors().grade(1, 3, 750_000))?;
+    /// let grade = Grade { obligors: 4, defaults: 3, announced: 750_000 };
+    /// assert_eq!(desk.grades(Place::First).collect::<Vec<_>>(), [grade]);
+    /// assert_eq!(desk.grades(Place::Second).len(), 0);
+    /// # Ok::<(), desk::Refusal>(())
+    /// ```
+    #[must_use]
     pub fn grades(&self, place: Place) -> impl ExactSizeIterator<Item = Grade> + '_ {
         let rows = self.rows(place);
         (0..rows.grades as usize).map(|index| Grade {

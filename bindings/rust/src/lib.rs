@@ -1,45 +1,57 @@
 //! Compares credit rating scales: a safe interface to the library that is proved in Rattle.
 //!
-//! A [`Desk`] has two places. Each is empty or holds the grade table of one rater, loaded from a
-//! book: a file in the byte format of document 01, in which each table says itself whether its
-//! first column counts obligors or survivors. A scale is at least as good as another over the same
-//! obligors if its cheapest cutoff costs no more, whatever a missed default and a survivor turned
-//! away may cost; [`Desk::compare`] decides that, and shows prices where it does not hold.
+//! A [`Desk`] has two places. Each is empty or holds the grade table of one rater: a [`Table`] made
+//! in memory, or one of a book, a file in the byte format of `BOOK.md` (in `share/doc/desk` where
+//! installed, `docs` in the sources). Either way a table says whether its first column counts
+//! obligors or survivors: one taken for the other can make the losing scale win while every figure
+//! still looks right. A scale is at least as good as another over the same obligors if its cheapest
+//! cutoff costs no more, whatever a missed default and a survivor turned away may cost;
+//! [`Desk::compare`] decides that, and shows prices where it does not hold.
 //!
 //! ```
-//! use desk::{Desk, Place, Verdict};
+//! use desk::{Desk, Place, Table, Verdict};
 //!
-//! let book = std::fs::read("../../examples/h.book")?;
 //! let mut desk = Desk::empty();
-//! desk.load(Place::First, &book, 1)?;
-//! desk.load(Place::Second, &book, 2)?;
+//! desk.load_table(Place::First, &Table::by_obligors().grade(5, 2, 400_000).grade(1, 1, 1_000_000))?;
+//! desk.load_table(Place::Second, &Table::by_survivors().grade(2, 0, 0).grade(1, 3, 750_000))?;
 //! let Verdict::Crossing { first_dearer, .. } = desk.compare()? else {
 //!     panic!("each of these scales costs more at some prices");
 //! };
 //! let first = desk.cheapest(Place::First, first_dearer)?;
 //! let second = desk.cheapest(Place::Second, first_dearer)?;
 //! assert!(first.cost > second.cost);
-//! # Ok::<(), Box<dyn std::error::Error>>(())
+//! # Ok::<(), desk::Refusal>(())
 //! ```
 //!
 //! A call is accepted, or refused with a [`Refusal`], which leaves the desk and every buffer as
-//! they were. No call allocates, save where it returns a `Vec`, and none has state of its own.
-
-#![deny(missing_docs)]
-#![deny(unsafe_code)]
+//! they were. No call on a desk has state of its own, and none allocates, save those that return a
+//! `Vec` or take a [`Table`]. Every answer prints in words or numbers; a width and an alignment are
+//! honoured, and a precision is the number of decimal places.
 
 mod answer;
 mod desk;
+mod fraction;
+mod place;
 mod refusal;
 pub mod sys;
+mod table;
+mod text;
+mod verdict;
+mod version;
 
-pub use answer::{Cutoff, Fraction, Grade, Measures, PooledGrade, Price, Spread, Verdict};
-pub use desk::Place;
-pub use refusal::Refusal;
+pub use answer::{Cutoff, Grade, Measures, PooledGrade, Price, Spread};
+pub use fraction::Fraction;
+pub use place::Place;
+pub use refusal::{Refusal, UnknownNumber};
 pub use sys::Desk;
+pub use table::Table;
+pub use verdict::Verdict;
+pub use version::VERSION;
 
 /// The most grades of a table.
 pub const GRADES: usize = 40;
+/// The most raters of a book.
+pub const RATERS: usize = 16;
 /// The most obligors of a table.
 pub const MAX_OBLIGORS: u32 = 1_000_000;
 /// The highest price.

@@ -1,20 +1,41 @@
 //! The functions of `include/desk.h`, with place numbers and refusal numbers as they are there, and
-//! with references and slices for pointers. An answer is written only where 0 is returned.
+//! with references and slices for pointers. All but [`version`] return 0 where they accept, and have
+//! then written their answer; else the number of a [`Refusal`](crate::Refusal), and have written
+//! nothing.
 //!
 //! They are safe, whatever the numbers: the header asks for pointers that are not null to memory
 //! that does not overlap, as references are, and for a desk that `desk_empty` made and only
 //! `desk_load` and `desk_clear` changed, which the private fields of [`Desk`] see to.
 //! This is the only file that may hold `unsafe`.
+//!
+//! ```
+//! use desk::{sys, Cutoff, Desk, Table};
+//!
+//! let book = Table::book(&[Table::by_obligors().grade(5, 2, 400_000).grade(1, 1, 1_000_000)])?;
+//! let mut desk = Desk::empty();
+//! assert_eq!(sys::load(&mut desk, 1, &book, 1), 0);
+//! assert_eq!(sys::load(&mut desk, 3, &book, 1), 1, "place is not 1 or 2");
+//! let mut answer = Cutoff::default();
+//! assert_eq!(sys::cheapest(&desk, 1, 1, 3, &mut answer), 0);
+//! assert_eq!(answer, Cutoff { cutoff: 1, cost: 2 });
+//! # Ok::<(), desk::Refusal>(())
+//! ```
 
-#![allow(unsafe_code)]
+#![allow(
+    unsafe_code,
+    reason = "the functions of the library are declared and called here alone"
+)]
 
-use crate::answer::{Cutoff, Fraction, Measures, Price, Spread};
-use crate::GRADES;
+use crate::answer::{Cutoff, Measures, Price, Spread};
+use crate::fraction::Fraction;
+use crate::{GRADES, version};
 use std::mem::{align_of, size_of};
 
-/// What one place holds. Entries from `grades` on mean nothing.
+/// What one place holds. The derived `==` compares tables, since entries from `grades` on are 0: a
+/// place is zero bytes before a load, and load writes only its grades (contracts of the library:
+/// `fresh` and `placeOf`).
 #[repr(C)]
-#[derive(Clone, PartialEq, Eq)]
+#[derive(Clone, PartialEq, Eq, Hash)]
 pub(crate) struct Rows {
     pub(crate) obligors: [u32; GRADES],
     pub(crate) defaults: [u32; GRADES],
@@ -24,8 +45,18 @@ pub(crate) struct Rows {
 }
 
 /// Two places, each empty or holding the grade table of one rater.
+///
+/// ```
+/// use desk::{Desk, Place, Table};
+///
+/// let mut desk = Desk::empty();
+/// desk.load_table(Place::First, &Table::by_obligors().grade(5, 2, 400_000).grade(1, 1, 1_000_000))?;
+/// desk.load_table(Place::Second, &Table::by_survivors().grade(2, 0, 0).grade(1, 3, 750_000))?;
+/// println!("{}", desk.compare()?);
+/// # Ok::<(), desk::Refusal>(())
+/// ```
 #[repr(C)]
-#[derive(Clone, PartialEq, Eq)]
+#[derive(Clone, PartialEq, Eq, Hash)]
 pub struct Desk {
     first: Rows,
     second: Rows,
@@ -33,7 +64,21 @@ pub struct Desk {
 
 impl Desk {
     /// A desk with both places empty.
+    ///
+    /// ```
+    /// use desk::{Desk, Place};
+    ///
+    /// let desk = Desk::empty();
+    /// assert!(!desk.is_loaded(Place::First) && !desk.is_loaded(Place::Second));
+    /// ```
+    ///
+    /// # Panics
+    ///
+    /// Where the library is of another version than this crate, in words. Linking notices that
+    /// before: the function asked for here has the version in its name.
+    #[must_use]
     pub fn empty() -> Desk {
+        version::check(library_is_this_version()).unwrap_or_else(|differs| panic!("{differs}"));
         let unset = Rows {
             obligors: [0; GRADES],
             defaults: [0; GRADES],
@@ -58,9 +103,17 @@ impl Desk {
     }
 }
 
-/// A verdict as the header has it; see [`crate::Verdict`].
+/// A verdict as the header has it; [`crate::Verdict`] is made of it by `try_from`.
+///
+/// ```
+/// use desk::{sys, Price, Verdict};
+///
+/// let second_dearer = Price { u: 1, v: 2 };
+/// let verdict = sys::Verdict { kind: 1, second_dearer, ..Default::default() };
+/// assert_eq!(Verdict::try_from(verdict), Ok(Verdict::First { second_dearer }));
+/// ```
 #[repr(C)]
-#[derive(Clone, Copy, Debug, Default, PartialEq, Eq)]
+#[derive(Clone, Copy, Debug, Default, PartialEq, Eq, Hash)]
 pub struct Verdict {
     /// 0 equal, 1 first, 2 second, 3 crossing.
     pub kind: u32,
@@ -86,38 +139,147 @@ unsafe extern "C" {
     fn desk_pool(desk: &Desk, place: u32, numbers: *mut u32, length: usize) -> u32;
     fn desk_write(desk: &Desk, book: *mut u8, length: usize, written: &mut usize) -> u32;
 
+    // A library of another version does not have this name.
+    #[link_name = concat!("desk_library_is_version_", env!("CARGO_PKG_VERSION_MAJOR"))]
+    safe fn library_is_this_version() -> u32;
+
+    /// The version of the library.
+    ///
+    /// ```
+    /// assert_eq!(desk::sys::version(), desk::VERSION);
+    /// ```
+    #[link_name = "desk_version"]
+    #[must_use]
+    pub safe fn version() -> u32;
+
     /// Empties a loaded place. Refuses 1, 22.
+    ///
+    /// ```
+    /// use desk::{sys, Desk};
+    ///
+    /// let mut desk = Desk::empty();
+    /// assert_eq!(sys::clear(&mut desk, 3), 1);
+    /// assert_eq!(sys::clear(&mut desk, 2), 22);
+    /// ```
     #[link_name = "desk_clear"]
+    #[must_use = "a refused call does nothing"]
     pub safe fn clear(desk: &mut Desk, place: u32) -> u32;
 
-    /// The cheapest cutoff. Refuses 1, 22, 12.
+    /// The cheapest cutoff, among equals the smallest. Refuses 1, 22, 12.
+    ///
+    /// ```
+    /// use desk::{sys, Cutoff, Desk, Place, Table};
+    ///
+    /// let mut desk = Desk::empty();
+    /// desk.load_table(Place::First, &Table::by_obligors().grade(5, 2, 400_000).grade(1, 1, 1_000_000))?;
+    /// let mut answer = Cutoff::default();
+    /// assert_eq!(sys::cheapest(&desk, 1, 1, 3, &mut answer), 0);
+    /// assert_eq!(answer, Cutoff { cutoff: 1, cost: 2 });
+    /// # Ok::<(), desk::Refusal>(())
+    /// ```
     #[link_name = "desk_cheapest"]
+    #[must_use = "a refused call writes no answer"]
     pub safe fn cheapest(desk: &Desk, place: u32, u: u32, v: u32, answer: &mut Cutoff) -> u32;
 
     /// Which scale is at least as good. Refuses 22, 23, 24, 25.
+    ///
+    /// ```
+    /// use desk::{sys, Desk, Place, Table};
+    ///
+    /// let table = Table::by_obligors().grade(5, 2, 400_000).grade(1, 1, 1_000_000);
+    /// let mut desk = Desk::empty();
+    /// desk.load_table(Place::First, &table)?;
+    /// desk.load_table(Place::Second, &table)?;
+    /// let mut answer = sys::Verdict { kind: 9, ..Default::default() };
+    /// assert_eq!(sys::compare(&desk, &mut answer), 0);
+    /// assert_eq!(answer.kind, 0, "equal");
+    /// # Ok::<(), desk::Refusal>(())
+    /// ```
     #[link_name = "desk_compare"]
+    #[must_use = "a refused call writes no answer"]
     pub safe fn compare(desk: &Desk, answer: &mut Verdict) -> u32;
 
     /// D, S and the four measures. Refuses 1, 22, 23, 24.
+    ///
+    /// ```
+    /// use desk::{sys, Desk, Measures, Place, Table};
+    ///
+    /// let mut desk = Desk::empty();
+    /// desk.load_table(Place::First, &Table::by_obligors().grade(5, 2, 400_000).grade(1, 1, 1_000_000))?;
+    /// let mut answer = Measures::default();
+    /// assert_eq!(sys::measures(&desk, 1, &mut answer), 0);
+    /// assert_eq!(answer.gini.written(), (3, 9));
+    /// # Ok::<(), desk::Refusal>(())
+    /// ```
     #[link_name = "desk_measures"]
+    #[must_use = "a refused call writes no answer"]
     pub safe fn measures(desk: &Desk, place: u32, answer: &mut Measures) -> u32;
 
     /// The Brier score of the announced rates. Refuses 1, 22.
+    ///
+    /// ```
+    /// use desk::{sys, Desk, Fraction, Place, Table};
+    ///
+    /// let mut desk = Desk::empty();
+    /// desk.load_table(Place::First, &Table::by_obligors().grade(2, 1, 500_000))?;
+    /// let mut answer = Fraction::default();
+    /// assert_eq!(sys::brier(&desk, 1, &mut answer), 0);
+    /// assert_eq!(Some(answer), Fraction::new(1, 4));
+    /// # Ok::<(), desk::Refusal>(())
+    /// ```
     #[link_name = "desk_brier"]
+    #[must_use = "a refused call writes no answer"]
     pub safe fn brier(desk: &Desk, place: u32, answer: &mut Fraction) -> u32;
 
     /// The spread. Refuses 1, 22.
+    ///
+    /// ```
+    /// use desk::{sys, Desk, Place, Spread, Table};
+    ///
+    /// let mut desk = Desk::empty();
+    /// desk.load_table(Place::First, &Table::by_obligors().grade(2, 1, 500_000))?;
+    /// let mut answer = Spread::default();
+    /// assert_eq!(sys::spread(&desk, 1, &mut answer), 0);
+    /// assert_eq!(answer.total, 0.5);
+    /// # Ok::<(), desk::Refusal>(())
+    /// ```
     #[link_name = "desk_spread"]
+    #[must_use = "a refused call writes no answer"]
     pub safe fn spread(desk: &Desk, place: u32, answer: &mut Spread) -> u32;
 }
 
 /// Fills an empty place with the table of a rater of a book. Refuses 1, 21, 2 to 11.
+///
+/// ```
+/// use desk::{sys, Desk, Table};
+///
+/// let book = Table::book(&[Table::by_survivors().grade(2, 0, 0).grade(1, 3, 750_000)])?;
+/// let mut desk = Desk::empty();
+/// assert_eq!(sys::load(&mut desk, 2, &book, 1), 0);
+/// assert_eq!(sys::load(&mut desk, 2, &book, 1), 21);
+/// assert_eq!(sys::load(&mut desk, 1, &book[1..], 1), 2);
+/// # Ok::<(), desk::Refusal>(())
+/// ```
+#[must_use = "a refused call does nothing"]
 pub fn load(desk: &mut Desk, place: u32, book: &[u8], rater: u32) -> u32 {
     // SAFETY: the slice lends as many bytes as it says, also none.
     unsafe { desk_load(desk, place, book.as_ptr(), book.len(), rater) }
 }
 
 /// Writes three numbers a grade and keeps the further ones. Refuses 1, 22, 13.
+///
+/// ```
+/// use desk::{sys, Desk, Place, Table};
+///
+/// let mut desk = Desk::empty();
+/// desk.load_table(Place::First, &Table::by_obligors().grade(10, 2, 0).grade(20, 4, 0))?;
+/// let mut numbers = [7; 7];
+/// assert_eq!(sys::pool(&desk, 1, &mut numbers[..5]), 13);
+/// assert_eq!(sys::pool(&desk, 1, &mut numbers), 0);
+/// assert_eq!(numbers, [6, 30, 11, 6, 30, 11, 7]);
+/// # Ok::<(), desk::Refusal>(())
+/// ```
+#[must_use = "a refused call writes nothing"]
 pub fn pool(desk: &Desk, place: u32, numbers: &mut [u32]) -> u32 {
     // SAFETY: the slice lends as many numbers as it says, also none.
     unsafe { desk_pool(desk, place, numbers.as_mut_ptr(), numbers.len()) }
@@ -125,6 +287,18 @@ pub fn pool(desk: &Desk, place: u32, numbers: &mut [u32]) -> u32 {
 
 /// Writes the loaded tables as a book, keeps the further bytes, and says the book's length. Refuses
 /// 22, 13.
+///
+/// ```
+/// use desk::{sys, Desk, Place, Table};
+///
+/// let mut desk = Desk::empty();
+/// desk.load_table(Place::First, &Table::by_obligors().grade(10, 2, 0).grade(20, 4, 0))?;
+/// let (mut book, mut written) = ([0; desk::BOOK_BYTES], 0);
+/// assert_eq!(sys::write(&desk, &mut book, &mut written), 0);
+/// assert_eq!(written, 4 + 2 + 4 + 2 * 12);
+/// # Ok::<(), desk::Refusal>(())
+/// ```
+#[must_use = "a refused call writes nothing"]
 pub fn write(desk: &Desk, book: &mut [u8], written: &mut usize) -> u32 {
     // SAFETY: the slice lends as many bytes as it says, also none.
     unsafe { desk_write(desk, book.as_mut_ptr(), book.len(), written) }

@@ -2,8 +2,9 @@
 
 mod common;
 
-use common::{desk_with, Rows};
-use desk::{Desk, Grade, Place, Refusal, BOOK_BYTES, GRADES};
+use common::{Rows, desk_with};
+use desk::{BOOK_BYTES, Desk, GRADES, Grade, Place, Refusal, Table};
+use std::collections::HashSet;
 use std::error::Error;
 
 const MIXED: Rows = &[(10, 2), (20, 4)];
@@ -36,6 +37,19 @@ fn a_copy_is_a_desk_of_its_own() {
     assert!(desk.is_loaded(Place::First) && !copy.is_loaded(Place::First));
     assert_eq!(copy.clear(Place::Second), Ok(()));
     assert_eq!(copy, Desk::empty());
+}
+
+/// Nothing of an earlier, longer table is left where a shorter one is loaded.
+#[test]
+fn desks_with_the_same_tables_are_equal() {
+    let mut desk = desk_with(Some(&[(25_000, 1); GRADES]), Some(MIXED));
+    let long = desk.clone();
+    assert_eq!(desk.clear(Place::First), Ok(()));
+    let table: Table = long.grades(Place::Second).collect();
+    assert_eq!(desk.load_table(Place::First, &table), Ok(()));
+    let same = desk_with(Some(MIXED), Some(MIXED));
+    assert_eq!(desk, same);
+    assert_eq!(HashSet::from([desk, same, long]).len(), 2);
 }
 
 #[test]
@@ -76,5 +90,5 @@ fn a_refusal_is_an_error_in_words() {
     let refused = Desk::empty().compare().expect_err("nothing is loaded");
     assert_eq!((refused, refused.number()), (Refusal::Empty, 22));
     let error: Box<dyn Error> = refused.into();
-    assert_eq!(error.to_string(), "place empty");
+    assert_eq!(error.to_string(), "refused 22: place empty");
 }

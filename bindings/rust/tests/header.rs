@@ -24,7 +24,7 @@ fn refusals_are_those_of_the_header() {
     let expected: Vec<String> = Refusal::ALL
         .iter()
         .map(|&refusal| {
-            let (number, meaning) = (refusal.number(), refusal.to_string());
+            let (number, meaning) = (refusal.number(), refusal.meaning());
             format!("X({}, {number}, \"{meaning}\")", constant(refusal))
         })
         .collect();
@@ -44,21 +44,16 @@ fn numbers_are_those_of_document_01() {
         .map(|refusal| refusal.number())
         .collect();
     assert_eq!(numbers, (1..=13).chain(21..=25).collect::<Vec<u32>>());
-    for number in 0..100 {
-        let refusal = Refusal::of_number(number);
-        assert_eq!(refusal.is_some(), numbers.contains(&number));
-        assert!(refusal.is_none_or(|refusal| refusal.number() == number));
-    }
 }
 
 #[test]
 fn limits_are_those_of_the_header() {
     let limits = [
-        ("DESK_GRADES", desk::GRADES),
-        ("DESK_MAX_OBLIGORS", desk::MAX_OBLIGORS as usize),
-        ("DESK_MAX_PRICE", desk::MAX_PRICE as usize),
-        ("DESK_POOL_NUMBERS", desk::POOL_NUMBERS),
-        ("DESK_BOOK_BYTES", desk::BOOK_BYTES),
+        ("DESK_GRADES", desk::GRADES.to_string()),
+        ("DESK_MAX_OBLIGORS", desk::MAX_OBLIGORS.to_string()),
+        ("DESK_MAX_PRICE", desk::MAX_PRICE.to_string()),
+        ("DESK_POOL_NUMBERS", desk::POOL_NUMBERS.to_string()),
+        ("DESK_BOOK_BYTES", desk::BOOK_BYTES.to_string()),
     ];
     for (name, limit) in limits {
         let line = format!("#define {name} {limit} ");

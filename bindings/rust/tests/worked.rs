@@ -2,8 +2,8 @@
 
 mod common;
 
-use common::{book_of, desk_with, Rows};
-use desk::{Cutoff, Desk, Fraction, Place, Price, Refusal, Verdict, MAX_OBLIGORS, MAX_PRICE};
+use common::{Rows, desk_with, table_of};
+use desk::{Cutoff, Desk, Fraction, MAX_OBLIGORS, MAX_PRICE, Place, Price, Refusal, Verdict};
 use std::fs;
 
 const E: Rows = &[(30, 2), (18, 4), (15, 10), (16, 14), (21, 20)];
@@ -23,13 +23,6 @@ fn blocks(rows: Rows) -> Vec<(u32, u32)> {
     pooled.iter().map(block).collect()
 }
 
-fn fraction(numerator: i64, denominator: i64) -> Fraction {
-    Fraction {
-        numerator,
-        denominator,
-    }
-}
-
 fn verdict(first: Rows, second: Rows) -> Verdict {
     desk_with(Some(first), Some(second))
         .compare()
@@ -37,7 +30,7 @@ fn verdict(first: Rows, second: Rows) -> Verdict {
 }
 
 /// The cheapest costs of the two places.
-fn costs(desk: &Desk, price: Price) -> (u64, u64) {
+fn costs(desk: &Desk, price: Price) -> (i64, i64) {
     let cost = |place| desk.cheapest(place, price).expect("lawful prices").cost;
     (cost(Place::First), cost(Place::Second))
 }
@@ -50,10 +43,11 @@ fn a_book_k() {
     assert_eq!(desk.pool_into(Place::Second, &mut numbers), Ok(()));
     assert_eq!(numbers, [3, 20, 11, 3, 20, 11, 4, 20, 11, 7]);
     let measures = desk.measures(Place::Second).expect("mixed");
-    assert_eq!(measures.gini, fraction(10, 231));
+    assert_eq!(measures.gini.written(), (10, 231));
     // 2 * 0.9^2 + 8 * 0.1^2 + 0.85^2 + 9 * 0.15^2 + 4 * 0.8^2 + 16 * 0.2^2 = 5.825
     let brier = desk.brier(Place::Second).expect("it is loaded");
-    assert_eq!(brier, fraction(5_825_000_000_000, 40_000_000_000_000));
+    assert_eq!(brier.written(), (5_825_000_000_000, 40_000_000_000_000));
+    assert_eq!(Some(brier), Fraction::new(233, 1600));
     assert_eq!(desk.write(), Ok(book_k()));
 }
 
@@ -77,24 +71,24 @@ fn e_the_five_grade_table() {
     let desk = desk_of(E);
     let measures = desk.measures(Place::First).expect("mixed");
     assert_eq!((measures.defaults, measures.survivors), (50, 50));
-    assert_eq!(measures.gini, fraction(2050, 2500));
-    assert_eq!(measures.gini.to_f64(), 0.82);
-    assert_eq!(measures.roc, fraction(4550, 5000));
-    assert_eq!(measures.cap, fraction(7050, 10_000));
-    assert_eq!(measures.pietra, fraction(1800, 2500));
+    assert_eq!(measures.gini.written(), (2050, 2500));
+    assert_eq!(measures.gini.to_string(), "0.820000 (2050/2500)");
+    assert_eq!(measures.roc.written(), (4550, 5000));
+    assert_eq!(measures.cap.written(), (7050, 10_000));
+    assert_eq!(measures.pietra.written(), (1800, 2500));
     assert_eq!(measures.cutoff, 3);
     let pooled = desk.pool(Place::First).expect("it is loaded");
     let bands: Vec<u32> = pooled.iter().map(|grade| grade.band).collect();
     assert_eq!(bands, [10, 12, 13, 14, 14]);
-    assert_eq!(pooled[4].rate(), fraction(20, 21));
+    assert_eq!(pooled[4].rate().written(), (20, 21));
 }
 
 #[test]
 fn f_a_reversed_scale() {
     let desk = desk_of(&[(2, 2), (2, 0)]);
     let measures = desk.measures(Place::First).expect("mixed");
-    assert_eq!(measures.gini, fraction(-4, 4));
-    assert_eq!((measures.pietra, measures.cutoff), (fraction(0, 4), 0));
+    assert_eq!(measures.gini.written(), (-4, 4));
+    assert_eq!((measures.pietra.written(), measures.cutoff), ((0, 4), 0));
 }
 
 #[test]
@@ -146,8 +140,8 @@ fn i_a_table_equals_itself() {
 
 #[test]
 fn k_limits() {
-    let load = |rows: Rows| Desk::empty().load(Place::First, &book_of(rows), 1);
-    let most = u64::from(MAX_OBLIGORS);
+    let load = |rows: Rows| Desk::empty().load_table(Place::First, &table_of(rows));
+    let most = MAX_OBLIGORS;
     assert_eq!(load(&[(most, 1)]), Ok(()));
     assert_eq!(load(&[(most + 1, 1)]), Err(Refusal::Obligors));
     assert_eq!(load(&[(1, 0); desk::GRADES]), Ok(()));

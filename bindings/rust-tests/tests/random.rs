@@ -1,13 +1,14 @@
 //! Random scripts of calls through the C boundary, held against the plain version in `reference/`:
 //! its judgement of the answers, and here the desk and all that is lent, word for word.
 
-use desk::{sys, Cutoff, Desk, Fraction, Grade, Measures, Place, Price, Spread};
+use desk::{Cutoff, Desk, Fraction, Grade, Measures, Place, Price, Spread, sys};
 use reference::answer::Answer;
 use reference::compare::{judge, plan};
 use reference::desk::{LENT_BYTE, LENT_NUMBER};
 use reference::generate::Script;
 use reference::script::Call;
 use reference::{cutoff, measures, spread};
+use std::fmt::Debug;
 use std::hint::black_box;
 use std::time::{SystemTime, UNIX_EPOCH};
 
@@ -15,17 +16,18 @@ const CALLS: usize = 20_000;
 
 /// What a call answers in memory that held something else before, and still does at a refusal. What
 /// stands beside it is kept.
-fn answered<T: Copy + PartialEq>(before: T, call: impl FnOnce(&mut T) -> u32) -> Result<T, u32> {
+fn answered<T: Copy + Debug>(before: T, call: impl FnOnce(&mut T) -> u32) -> Result<T, u32> {
     let mut memory = [before; 3];
     let number = call(&mut memory[1]);
-    assert!(memory[0] == before && memory[2] == before);
-    match number {
-        0 => Ok(memory[1]),
-        _ => {
-            assert!(memory[1] == before, "refused {number}, and wrote an answer");
-            Err(number)
-        }
+    // Printed, since fractions are compared by value, and these are to be as they were written.
+    let [below, written, above] = memory.map(|memory| format!("{memory:?}"));
+    let before = format!("{before:?}");
+    assert_eq!([&below, &above], [&before; 2]);
+    if number == 0 {
+        return Ok(memory[1]);
     }
+    assert_eq!(written, before, "refused {number}, and wrote an answer");
+    Err(number)
 }
 
 fn done(number: u32) -> Result<(), u32> {
@@ -62,7 +64,8 @@ fn cheapest(desk: &Desk, place: u32, u: u32, v: u32) -> Result<(u32, u64), u32> 
         cost: 1 << 50,
     };
     let cheapest = answered(before, |answer| sys::cheapest(desk, place, u, v, answer))?;
-    Ok((narrow(cheapest.cutoff), cheapest.cost))
+    let cost = cheapest.cost.try_into().expect("it is not negative");
+    Ok((narrow(cheapest.cutoff), cost))
 }
 
 fn compare(desk: &Desk) -> Result<cutoff::Verdict, u32> {
@@ -87,10 +90,7 @@ fn compare(desk: &Desk) -> Result<cutoff::Verdict, u32> {
     })
 }
 
-const FRACTION: Fraction = Fraction {
-    numerator: -94,
-    denominator: -93,
-};
+const FRACTION: Fraction = Fraction::new(-94, 188).expect("a positive denominator");
 
 fn measures(desk: &Desk, place: u32) -> Result<measures::Measures, u32> {
     let before = Measures {
@@ -103,14 +103,13 @@ fn measures(desk: &Desk, place: u32) -> Result<measures::Measures, u32> {
         cutoff: -90,
     };
     let found = answered(before, |answer| sys::measures(desk, place, answer))?;
-    let parts = |fraction: Fraction| (fraction.numerator, fraction.denominator);
     Ok(measures::Measures {
         defaults: narrow(found.defaults).into(),
         survivors: narrow(found.survivors).into(),
-        gini: parts(found.gini),
-        roc: parts(found.roc),
-        cap: parts(found.cap),
-        pietra: parts(found.pietra),
+        gini: found.gini.written(),
+        roc: found.roc.written(),
+        cap: found.cap.written(),
+        pietra: found.pietra.written(),
         pietra_cutoff: narrow(found.cutoff),
     })
 }
@@ -118,7 +117,7 @@ fn measures(desk: &Desk, place: u32) -> Result<measures::Measures, u32> {
 fn brier(desk: &Desk, place: u32) -> Result<(u64, u64), u32> {
     let brier = answered(FRACTION, |answer| sys::brier(desk, place, answer))?;
     let part = |number: i64| number.try_into().expect("it is not negative");
-    Ok((part(brier.numerator), part(brier.denominator)))
+    Ok((part(brier.numerator()), part(brier.denominator())))
 }
 
 fn spread(desk: &Desk, place: u32) -> Result<spread::Spread, u32> {
@@ -221,6 +220,6 @@ fn a_fresh_seed_agrees() {
     let clock = || SystemTime::now().duration_since(UNIX_EPOCH);
     agrees(match std::env::var("DESK_SEED") {
         Ok(seed) => seed.parse().expect("DESK_SEED is a number"),
-        Err(_) => clock().expect("after 1970").as_nanos() as u64,
+        Err(_) => clock().expect("after 1970").subsec_nanos().into(),
     });
 }

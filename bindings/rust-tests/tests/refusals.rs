@@ -3,12 +3,13 @@
 
 mod common;
 
-use common::{book_of, desk_with, Rows};
-use desk::{sys, Cutoff, Desk, Fraction, Measures, Price, Spread};
+use common::{Rows, book_of, desk_with};
+use desk::{Cutoff, Desk, Fraction, Measures, Price, Spread, sys};
 use reference::damage::WAYS;
 use reference::draft::Draft;
 use reference::population::any_table;
 use reference::random::Random;
+use std::fmt::Debug;
 use std::hint::black_box;
 
 const MIXED: Rows = &[(10, 2), (10, 1), (20, 4)];
@@ -17,7 +18,7 @@ const NO_SURVIVORS: Rows = &[(3, 3)];
 const NO_PLACES: [u32; 4] = [0, 3, 257, u32::MAX];
 
 /// Sees a call refused with this number, and neither the desk nor what was lent changed.
-fn refused<T: Clone + PartialEq + std::fmt::Debug>(
+fn refused<T: Clone + Debug>(
     desk: &Desk,
     lent: T,
     number: u32,
@@ -32,8 +33,10 @@ fn refused<T: Clone + PartialEq + std::fmt::Debug>(
         desk_after == *desk,
         "refused {number}, and {desk:?} changed"
     );
+    // Printed, since fractions are compared by value, and these are to be as they were written.
     assert_eq!(
-        lent_after, lent,
+        format!("{lent_after:?}"),
+        format!("{lent:?}"),
         "refused {number}, and what was lent changed"
     );
 }
@@ -45,7 +48,7 @@ fn load_refused(desk: &Desk, place: u32, book: &[u8], rater: u32, number: u32) {
 }
 
 fn clear_refused(desk: &Desk, place: u32, number: u32) {
-    refused(desk, (), number, |desk, _| sys::clear(desk, place));
+    refused(desk, (), number, |desk, ()| sys::clear(desk, place));
 }
 
 fn pool_refused(desk: &Desk, place: u32, length: usize, number: u32) {
@@ -56,7 +59,7 @@ fn pool_refused(desk: &Desk, place: u32, length: usize, number: u32) {
 
 fn cheapest_refused(desk: &Desk, place: u32, price: (u32, u32), number: u32) {
     let lent = Cutoff {
-        cutoff: u64::MAX,
+        cutoff: i64::MAX,
         cost: 7,
     };
     refused(desk, lent, number, |desk, answer| {
@@ -75,10 +78,7 @@ fn compare_refused(first: Option<Rows>, second: Option<Rows>, number: u32) {
     });
 }
 
-const FRACTION: Fraction = Fraction {
-    numerator: -3,
-    denominator: -4,
-};
+const FRACTION: Fraction = Fraction::new(-3, 6).expect("a positive denominator");
 
 fn measures_refused(desk: &Desk, place: u32, number: u32) {
     let lent = Measures {
