@@ -19,6 +19,7 @@ sys.dont_write_bytecode = True
 PACKAGES = os.path.join(os.path.dirname(os.path.abspath(__file__)), '..', '..', 'bindings', 'python')
 sys.path.insert(0, PACKAGES)
 from desk.command import build  # noqa: E402
+from desk.version import VERSION  # noqa: E402
 
 CRATES = """# of the kit: libc and io
 low:
@@ -185,10 +186,10 @@ class FirstUse(Case):
     def test_links_what_is_to_be_called_and_no_more(self) -> None:
         self.use()
         words = got(os.path.join(self.kit, 'link')).splitlines()
-        self.assertEqual(words[words.index('-soname') + 1], 'libdesk.so')
+        self.assertEqual(words[words.index('-soname') + 1], f'libdesk.so.{VERSION}')
         self.assertEqual(words[words.index('--whole-archive') + 1], os.path.join(self.top, 'target', 'staticlib', 'libdesk_c.a'))
-        self.assertEqual(got(os.path.join(self.kit, 'exports')), '{ global: desk_*; local: *; };\n')
-        self.assertFalse([name for name in os.listdir(os.path.dirname(self.product)) if name.endswith(('.new', '.exports'))])
+        self.assertEqual(got(os.path.join(self.kit, 'exports')), f'DESK_{VERSION} {{ global: desk_*; local: *; }};\n')
+        self.assertFalse([name for name in os.listdir(os.path.dirname(self.product)) if name.endswith(('.new', '.exports', '.archive'))])
 
     def test_says_how_far_it_is(self) -> None:
         lines = self.use().splitlines()
@@ -229,6 +230,18 @@ class FirstUse(Case):
         self.use()
         self.assertEqual(self.builds(), 1)
 
+    def test_archive(self) -> None:
+        self.use(build.archive)
+        self.assertEqual(self.path, os.path.join(self.top, 'target', 'desk', 'libdesk.a'))
+        self.assertEqual(got(self.path), got(self.source))
+        self.assertEqual((self.builds(), os.path.exists(os.path.join(self.kit, 'link'))), (1, False))
+        self.assertEqual(self.use(build.archive), '')
+
+    def test_one_build_does_for_the_library_and_the_archive(self) -> None:
+        self.use()
+        self.assertEqual(self.use(build.archive), '')
+        self.assertEqual((got(self.path), self.builds()), (got(self.source), 1))
+
 
 class LaterUse(Case):
     def setUp(self) -> None:
@@ -264,6 +277,18 @@ class LaterUse(Case):
     def test_changed_source(self) -> None:
         put(self.source, 'changed\n')
         self.assert_built_again()
+
+    def test_changed_source_and_the_archive(self) -> None:
+        put(self.source, 'changed\n')
+        self.use(build.archive)
+        self.assertEqual((got(self.path), self.builds()), ('changed\n', 1))
+        self.assert_archive_of_old_sources_is_not_kept()
+
+    def assert_archive_of_old_sources_is_not_kept(self) -> None:
+        put(self.source, 'changed again\n')
+        self.use()
+        self.assertEqual(self.use(build.archive), '')
+        self.assertEqual(got(self.path), 'changed again\n')
 
     def test_changed_definition(self) -> None:
         put(self.in_crate('middle', 'specs', 'Table.antt'), 'changed\n')
@@ -318,9 +343,9 @@ class LaterUse(Case):
     def test_changed_way_to_build(self) -> None:
         packages = os.path.join(self.folder, 'packages')
         shutil.copytree(PACKAGES, packages)
-        for count, name in enumerate(('build.py', 'sources.py', 'toolchain.py'), 1):
+        for count, name in enumerate(('command/build.py', 'command/sources.py', 'command/toolchain.py', 'version.py'), 1):
             self.assertEqual(self.start(packages).wait(), 0)
-            with open(os.path.join(packages, 'desk', 'command', name), 'a', encoding='utf-8') as file:
+            with open(os.path.join(packages, 'desk', name), 'a', encoding='utf-8') as file:
                 file.write('# changed\n')
             self.assertEqual(self.start(packages).wait(), 0)
             self.assertEqual(self.builds(), count)
@@ -376,6 +401,12 @@ class Failures(Case):
         words = self.fails()
         self.assertIn('the linker ended with status 1', words)
         self.assert_log_has(words, 'undefined symbol')
+        self.assert_tried_again()
+
+    def test_sources_change_and_are_not_proved_then(self) -> None:
+        self.asked('after', '[ "$1" = check ] || { echo changed >>crates/low/src/lib.rt; echo "exit 1" >"$kit/before"; }\n')
+        self.assertIn('is not proved', self.fails())
+        self.assertEqual(self.builds(), 1)
         self.assert_tried_again()
 
     def test_linker_missing(self) -> None:

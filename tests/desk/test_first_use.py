@@ -16,6 +16,7 @@ import unittest
 
 sys.dont_write_bytecode = True
 from common import TOP, copy_repository  # noqa: E402
+from desk.version import VERSION  # noqa: E402
 
 
 @unittest.skipUnless(shutil.which('rt'), 'there is no rt here')
@@ -56,11 +57,12 @@ class FirstUse(unittest.TestCase):
         if not shutil.which('nm') or not shutil.which('readelf'):
             return
         with open(os.path.join(TOP, 'include', 'desk.h'), encoding='utf-8') as header:
-            declared = re.findall(r'^uint32_t (desk_\w+)\(', header.read(), re.M)
+            declared = {*re.findall(r'^uint32_t (desk_\w+)\(', header.read(), re.M), 'desk_version', f'desk_library_is_version_{VERSION}'}
         lines = subprocess.run(['nm', '-D', '--defined-only', path], stdout=subprocess.PIPE, check=True, text=True).stdout.splitlines()
-        self.assertEqual(sorted(line.split()[-1] for line in lines), sorted(declared))
+        functions = [line.split()[-1] for line in lines if line.split()[-2] != 'A']  # save the name of the version itself
+        self.assertEqual(sorted(functions), sorted(f'{name}@@DESK_{VERSION}' for name in declared))
         read = subprocess.run(['readelf', '-dW', path], stdout=subprocess.PIPE, check=True, text=True).stdout
-        self.assertIn('soname: [libdesk.so]', read)
+        self.assertIn(f'soname: [libdesk.so.{VERSION}]', read)
         self.assertNotIn('TEXTREL', read)
 
 

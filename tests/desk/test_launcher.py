@@ -65,6 +65,18 @@ class Launcher(unittest.TestCase):
         for launcher in (os.path.join(self.folder, 'near'), 'desk', os.path.join('again', 'desk')):
             self.assert_runs_main(launcher)
 
+    def test_installed(self) -> None:
+        """With another way to the module, as ./install writes it."""
+        with open(self.launcher, encoding='utf-8') as file:
+            text = file.read()
+        self.assertEqual(text.count("WAY = 'bindings/python'"), 1)
+        os.rename(self.packages, os.path.join(self.folder, 'module'))
+        self.packages = os.path.join(self.folder, 'module')
+        with open(self.launcher, 'w', encoding='utf-8') as file:
+            file.write(text.replace("WAY = 'bindings/python'", "WAY = '../module'"))
+        self.assert_runs_main(self.launcher)
+        self.assert_runs_main(os.path.join('top', 'desk'))
+
     def test_copied(self) -> None:
         copy = shutil.copy(self.launcher, os.path.join(self.folder, 'bin', 'desk'))
         self.assert_refuses(self.run_it(copy, 'compare'), 'link to it')

@@ -82,8 +82,8 @@ class Measures(NamedTuple):
     gini: WrittenFraction  # the accuracy ratio: negative for a scale that is upside down
     roc: WrittenFraction  # the area under the ROC curve
     cap: WrittenFraction  # the area under the CAP curve
-    pietra: WrittenFraction  # the largest vertical distance of the ROC curve from the diagonal
-    cutoff: int  # the smallest with that distance
+    pietra: WrittenFraction  # the largest height of the ROC curve above the diagonal; 0 at cutoff 0 where it is nowhere above
+    cutoff: int  # the smallest with that height
 
     def __str__(self) -> str:
         return (f'Gini {self.gini}, ROC area {self.roc}, CAP area {self.cap}, Pietra {self.pietra} at cutoff {self.cutoff}; '

@@ -1,4 +1,4 @@
-"""Proves and builds what the command runs, once: the shared library, and document 01's printing program.
+"""Proves and builds what the command runs and what is installed, once: the shared library, document 01's printing program, the archive.
 
 A product stands in TOP/target/desk, and beside it the stamp of the sources that it was made of. While that is the stamp of the present
 sources nothing is proved, built or waited for, and no toolchain is needed. A lock keeps two builds apart. The stamp is written last, so
@@ -9,6 +9,7 @@ from __future__ import annotations
 import os
 
 from desk.command.sources import Sources
+from desk.version import VERSION
 
 TYPE_CHECKING = False  # as typing has it, which need not be loaded for a later use
 if TYPE_CHECKING:
@@ -95,12 +96,31 @@ class Product:
 
 
 class SharedLibrary(Product):
+    """What it is linked of is kept as the archive of the same sources, so that one build does for both."""
+
     name, crate, called = 'libdesk.so', 'desk_c', 'the library'
 
     def make(self, toolchain: Toolchain, to: str) -> None:
-        below = [crate for crate in self.sources.crates() if crate != self.crate]
-        toolchain.check(below)  # several at a time, which `rt staticlib` does not do
-        toolchain.link(toolchain.staticlib(self.crate), self.name, to)
+        archive = archive_of(self, toolchain)
+        toolchain.link(archive, VERSION, to)
+        toolchain.copy(archive, f'{to}.archive')
+
+    def renew(self, stamp: str, lock: int) -> None:
+        try:
+            super().renew(stamp, lock)
+        finally:
+            remove(f'{self.path}.new.archive')
+
+    def put(self, new: str, stamp: str) -> None:
+        super().put(new, stamp)
+        Archive(self.top).put(f'{new}.archive', stamp)
+
+
+class Archive(Product):
+    name, crate, called = 'libdesk.a', 'desk_c', 'the archive'
+
+    def make(self, toolchain: Toolchain, to: str) -> None:
+        toolchain.copy(archive_of(self, toolchain), to)
 
 
 class PrintingProgram(Product):
@@ -108,7 +128,14 @@ class PrintingProgram(Product):
 
     def make(self, toolchain: Toolchain, to: str) -> None:
         toolchain.check([self.crate])
-        toolchain.copy_program(self.crate, to)
+        toolchain.copy(os.path.join(self.top, 'target', 'bin', self.crate), to)
+
+
+def archive_of(product: Product, toolchain: Toolchain) -> str:
+    """Proves the crate of a product and returns the path of its archive."""
+    below = [crate for crate in product.sources.crates() if crate != product.crate]
+    toolchain.check(below)  # several at a time, which `rt staticlib` does not do
+    return toolchain.staticlib(product.crate)
 
 
 def remove(path: str) -> None:
@@ -127,3 +154,8 @@ def shared_library(top: str) -> str:
 def printing_program(top: str) -> str:
     """The same for document 01's printing program."""
     return PrintingProgram(top).built()
+
+
+def archive(top: str) -> str:
+    """The same for the archive that C and Rust programs link."""
+    return Archive(top).built()

@@ -17,6 +17,7 @@ from .. import library
 from ..answers import Price
 from ..library import LibraryMissing
 from ..refusals import MEANINGS
+from ..version import VERSION
 from .layout import plain
 from .outcome import NotTaken, Outcome, WrongUsage
 
@@ -60,6 +61,12 @@ def refusal_number(word: str) -> int:
     return int(word)
 
 
+class ShowVersion(argparse.Action):
+    def __call__(self, parser: argparse.ArgumentParser, *_: object) -> None:
+        put(f'desk {VERSION}')
+        parser.exit()
+
+
 class Parser(argparse.ArgumentParser):
     """A parser that prints as the rest of the command does."""
 
@@ -74,6 +81,7 @@ class Parser(argparse.ArgumentParser):
 def command_line() -> Parser:
     """All commands with their words."""
     parser = Parser(prog='desk', description=DESCRIPTION, epilog=EXAMPLES, formatter_class=argparse.RawDescriptionHelpFormatter)
+    parser.add_argument('--version', nargs=0, action=ShowVersion, help='show the version, that of the library too, and exit')
     commands = parser.add_subparsers(dest='command', required=True, metavar='COMMAND')
 
     def command(name: str, does: str, example: str) -> Parser:
@@ -126,6 +134,8 @@ def answer(asked: argparse.Namespace) -> Outcome:
     if asked.command == 'refusals':
         return meanings(asked.number)
     built = {'library': shared_library(), 'report': printing_program()}
+    if library.repository() is None:  # installed: nothing is built, but it must be there
+        library.load(built['library'])
     return Outcome('\n'.join(built.values()), {'command': 'build', **built})
 
 
@@ -147,9 +157,12 @@ def shared_library() -> str:
 
 
 def printing_program() -> str:
-    top = library.repository()
+    """The program: the installed one, beside the package, else that of the sources here."""
+    top, beside = library.repository(), os.path.join(os.path.dirname(os.path.realpath(library.__file__)), 'report')
+    if os.path.isfile(beside):
+        return beside
     if top is None:
-        raise WrongUsage('the printing program is built from the sources, and they are not here')
+        raise WrongUsage(f'the printing program is built from the sources, and they are not here; nor is an installed one, {beside}')
     from .build import printing_program as product
     return built(product, top)
 
@@ -219,7 +232,7 @@ def run(arguments: list[str]) -> int:
     """Answers one command line."""
     try:
         asked = command_line().parse_args(arguments)
-    except SystemExit:  # after --help
+    except SystemExit:  # after --help or --version
         return ANSWERED
     try:
         return tell(answer(asked), asked.json)

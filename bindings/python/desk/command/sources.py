@@ -9,7 +9,7 @@ if TYPE_CHECKING:
     from typing import Iterator
 
 HERE = os.path.dirname(os.path.abspath(__file__))
-MAKERS = ('build.py', 'sources.py', 'toolchain.py')  # how a product is made is part of its stamp
+MAKERS = ('build.py', 'sources.py', 'toolchain.py', '../version.py')  # how a product is made is part of its stamp
 PARTS = ('src', 'specs', 'proofs')  # of a crate
 
 

@@ -14,7 +14,7 @@ from typing import BinaryIO, Iterable, Iterator
 
 PROVED = re.compile(r'rt: (\w+) proved \((\d+ s|unchanged)')
 REFUSED = re.compile(r'rt: \w+ (NOT PROVED|proved, and its run FAILED)')
-EXPORTS = '{ global: desk_*; local: *; };\n'
+EXPORTS = 'DESK_%d { global: desk_*; local: *; };\n'  # what a program linked with asks the loader for by name
 
 
 class Failed(Exception):
@@ -84,13 +84,13 @@ class Toolchain:
         self.progress.add(crate, f'{self.progress.seconds() - before} s')
         return os.path.join(self.top, 'target', 'staticlib', f'lib{crate}.a')
 
-    def copy_program(self, crate: str, to: str) -> None:
-        program = os.path.join(self.top, 'target', 'bin', crate)
-        if not os.path.isfile(program):
-            raise Failed(f'rt calls {crate} proved, but there is no {program}. Remove the folder target and try again')
-        shutil.copy(program, to)
+    def copy(self, made: str, to: str) -> None:
+        """Copies what rt has made."""
+        if not os.path.isfile(made):
+            raise Failed(f'rt calls {os.path.basename(made)} proved, but there is no {made}. Remove the folder target and try again')
+        shutil.copy(made, to)
 
-    def link(self, archive: str, name: str, to: str) -> None:
+    def link(self, archive: str, version: int, to: str) -> None:
         """Makes a shared library of an archive, with the functions desk_* alone to call from outside. It needs no C compiler."""
         tools = os.path.join(self.kit(), 'on', os.uname().machine, 'toolchain')
         linker, libc = os.path.join(tools, 'bin', 'ld.lld'), os.path.join(tools, 'lib', 'libc.so.6')
@@ -100,9 +100,9 @@ class Toolchain:
         exports = f'{to}.exports'
         try:
             with open(exports, 'w', encoding='ascii') as file:
-                file.write(EXPORTS)
+                file.write(EXPORTS % version)
             checks = [word for check in ('defs', 'text', 'relro', 'now', 'noexecstack') for word in ('-z', check)]
-            status = self.run([linker, '-shared', '-soname', name, f'--version-script={exports}', *checks, '-o', to,
+            status = self.run([linker, '-shared', '-soname', f'libdesk.so.{version}', f'--version-script={exports}', *checks, '-o', to,
                                '--whole-archive', archive, '--no-whole-archive', libc])
         finally:
             with contextlib.suppress(FileNotFoundError):

@@ -1,0 +1,1 @@
+"""Installs desk below a PREFIX, tries what is installed there, and removes it: what ./install runs."""
