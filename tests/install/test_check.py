@@ -12,7 +12,7 @@ import unittest
 
 sys.dont_write_bytecode = True
 from common import INSTALL, LIBRARY, PYTHON, TOP, VERSION, Case, found, standing  # noqa: E402
-from installing.place import Place  # noqa: E402
+from installing.destination import Destination  # noqa: E402
 from installing.putting import Entry  # noqa: E402
 
 ALL = ('installed files, as they were put', 'C, by pkg-config, shared', 'C, by pkg-config, static', 'C++, by pkg-config, shared',
@@ -107,7 +107,7 @@ class Check(Case):
         self.assertEqual((said['C, by folder, shared'], said['C, by folder, static']), ('FAILED', 'ok'))
 
     def test_another_version_or_half_an_install(self) -> None:
-        Place(self.path('other'), '').put(VERSION + 1, [Entry('include/desk.h', b'')])
+        Destination(self.path('other'), '').put(VERSION + 1, [Entry('include/desk.h', b'')])
         self.assertIn(f'has desk {VERSION + 1}, and this is desk {VERSION}', self.fails(1, INSTALL, '--check', self.path('other')))
         manifest = os.path.join(self.prefix, 'share', 'desk', 'installed.txt')
         with open(manifest, encoding='utf-8') as file:

@@ -17,7 +17,7 @@ import unittest.mock
 sys.dont_write_bytecode = True
 from common import INSTALL, LIBRARY, PYTHON, TOP, VERSION, Case, content_of, standing  # noqa: E402
 from installing import hints  # noqa: E402
-from installing.place import Place  # noqa: E402
+from installing.destination import Destination  # noqa: E402
 from installing.putting import Entry  # noqa: E402
 
 FOR_C = {'include/desk.h': 0o644, 'lib/libdesk.a': 0o644, f'lib/{LIBRARY}': 0o755, 'lib/libdesk.so': LIBRARY,
@@ -33,7 +33,7 @@ exec(compile(open(__file__).read(), __file__, 'exec'))
 SLOW = '''import sys, time
 sys.path[:0] = sys.argv[2:]
 from installing import main
-main.Place.put = lambda *_: (print('at work', flush=True), time.sleep(60))
+main.Destination.put = lambda *_: (print('at work', flush=True), time.sleep(60))
 sys.exit(main.main([sys.argv[1]], sys.argv[4]))
 '''
 
@@ -135,7 +135,7 @@ class Installed(Case):
     def test_over_an_older_install(self) -> None:
         older = [Entry('include/desk.h', b'older'), Entry('lib/libdesk.so.0', b'', 0o755), Entry('lib/libdesk.so', link='libdesk.so.0'),
                  Entry('share/doc/desk/gone/page.md', b'older'), Entry('lib/python3.0/site-packages/desk/__init__.py', b'')]
-        Place(self.prefix, '').put(VERSION + 1, older)
+        Destination(self.prefix, '').put(VERSION + 1, older)
         self.install(self.prefix)
         self.assert_whole(self.prefix)
 

@@ -15,7 +15,7 @@ import tempfile
 from desk.version import VERSION
 
 from .manifest import Manifest
-from .place import Place
+from .destination import Destination
 from .trial import Failed, Surroundings
 from .words import NotDone, listed
 
@@ -40,14 +40,14 @@ class Trial(NamedTuple):
 
 
 class Check:
-    """The trials of what is installed in a place."""
+    """The trials of what is installed in a destination."""
 
-    def __init__(self, place: Place, manifest: Manifest, folder: str) -> None:
-        self.place, self.manifest = place, manifest
+    def __init__(self, destination: Destination, manifest: Manifest, folder: str) -> None:
+        self.destination, self.manifest = destination, manifest
         packages = [path[:-len('/desk/__init__.py')] for path in manifest.marks if path.endswith('/site-packages/desk/__init__.py')]
         if len(packages) != 1:
-            raise NotDone(f'{place.folder} has no Python module desk, or more than one; install again')
-        self.at = Surroundings(place.folder, os.path.join(place.folder, packages[0]), folder)
+            raise NotDone(f'{destination.folder} has no Python module desk, or more than one; install again')
+        self.at = Surroundings(destination.folder, os.path.join(destination.folder, packages[0]), folder)
 
     def trials(self) -> Iterator[Trial]:
         yield Trial('installed files, as they were put', self.files)
@@ -72,7 +72,7 @@ class Check:
 
     def files(self) -> None:
         """Every file and link is there, with its content."""
-        with self.place.tree() as tree:
+        with self.destination.tree() as tree:
             wrong = [path for path in self.manifest.marks if not self.manifest.lists(path, tree.mark(path))]
         if wrong:
             raise Failed(f'missing or changed since:{listed(wrong)}')
@@ -173,15 +173,15 @@ def tried(trial: Trial) -> bool:
     return True
 
 
-def check(place: Place) -> bool:
+def check(destination: Destination) -> bool:
     """Tries everything; whether nothing failed."""
-    manifest = place.manifest()
+    manifest = destination.manifest()
     if not manifest.finished:
-        raise NotDone(f'an install has broken off in {place.folder}: repeat it, or uninstall')
+        raise NotDone(f'an install has broken off in {destination.folder}: repeat it, or uninstall')
     if manifest.version != VERSION:
-        raise NotDone(f'{place.folder} has desk {manifest.version}, and this is desk {VERSION}: install it, or check with the other')
+        raise NotDone(f'{destination.folder} has desk {manifest.version}, and this is desk {VERSION}: install it, or check with the other')
     with tempfile.TemporaryDirectory() as folder:
-        trials = Check(place, manifest, os.path.realpath(folder))
+        trials = Check(destination, manifest, os.path.realpath(folder))
         if not trials.at.compilers['CC']:
             raise NotDone('there is no C compiler here: neither cc, gcc nor clang is on the PATH, nor what CC names')
         trials.at.put_python()

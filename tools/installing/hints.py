@@ -10,26 +10,26 @@ import shutil
 import subprocess
 import sys
 
-from .place import Place
-from .sources import VERSION, Sources
+from .destination import Destination
+from .contents import VERSION, Contents
 
 SYSTEM = ('/', '/usr', '/usr/local')  # where CMake looks by itself
 
 
-def summary(place: Place, sources: Sources) -> str:
+def summary(destination: Destination, contents: Contents) -> str:
     """The lines that an install ends with."""
-    lines = [f'desk {VERSION} is installed in {place.folder}:',
-             f'  C, C++    include/desk.h, lib/{sources.library}, lib/libdesk.a, lib/pkgconfig/desk.pc, lib/cmake/desk',
+    lines = [f'desk {VERSION} is installed in {destination.folder}:',
+             f'  C, C++    include/desk.h, lib/{contents.library}, lib/libdesk.a, lib/pkgconfig/desk.pc, lib/cmake/desk',
              '  Rust      share/desk/rust',
-             f'  Python    {sources.module}',
+             f'  Python    {contents.module}',
              '  command   bin/desk',
              '  pages     share/doc/desk']
-    if place.staged:
-        return '\n'.join(lines + [f'It is made for {place.prefix}, and works wherever it is moved to as a whole.'])
-    set_first = list(settings(place.prefix, os.path.join(place.prefix, os.path.dirname(sources.module))))
+    if destination.staged:
+        return '\n'.join(lines + [f'It is made for {destination.prefix}, and works wherever it is moved to as a whole.'])
+    set_first = list(settings(destination.prefix, os.path.join(destination.prefix, os.path.dirname(contents.module))))
     if set_first:
         lines += ['To be found there it needs, in the shell or its profile:', *(f'  {line}' for line in set_first)]
-    prefix = shlex.quote(place.prefix)
+    prefix = shlex.quote(destination.prefix)
     return '\n'.join(lines + [f'./install --check {prefix} tries it; ./install --uninstall {prefix} removes it.'])
 
 

@@ -8,7 +8,7 @@ import sys
 
 from desk.command.main import die_of, hush
 
-from .place import Place
+from .destination import Destination
 from .words import NotDone, WrongUsage, listed, say
 
 DONE, NOT_DONE, WRONG = 0, 1, 2
@@ -39,25 +39,25 @@ def command_line() -> argparse.ArgumentParser:
     return parser
 
 
-def install(place: Place, top: str) -> int:
+def install(destination: Destination, top: str) -> int:
     from .hints import summary
-    from .sources import VERSION, Sources
-    sources = Sources(top)
-    kept = place.put(VERSION, sources.entries())
-    print(summary(place, sources))
+    from .contents import VERSION, Contents
+    contents = Contents(top)
+    kept = destination.put(VERSION, contents.entries())
+    print(summary(destination, contents))
     if kept:
         print(f'Kept of an earlier install, as it has been changed since:{listed(kept)}')
     return DONE
 
 
-def uninstall(place: Place) -> int:
-    made = place.manifest().folders
-    kept = place.uninstall()
+def uninstall(destination: Destination) -> int:
+    made = destination.manifest().folders
+    kept = destination.uninstall()
     if kept:
-        print(f'desk is removed from {place.folder}, save what has been changed since it was installed:{listed(kept)}')
+        print(f'desk is removed from {destination.folder}, save what has been changed since it was installed:{listed(kept)}')
         return NOT_DONE
-    print(f'desk is removed from {place.folder}')
-    stay = [path for path in sorted(made) if os.path.lexists(os.path.join(place.folder, path))]
+    print(f'desk is removed from {destination.folder}')
+    stay = [path for path in sorted(made) if os.path.lexists(os.path.join(destination.folder, path))]
     innermost = [path for path in stay if path != '.' and not any(other.startswith(f'{path}/') for other in stay)]
     if innermost:
         print(f'These folders stay, as they hold what was not installed:{listed(innermost)}')
@@ -66,13 +66,13 @@ def uninstall(place: Place) -> int:
 
 def run(arguments: list[str], top: str) -> int:
     asked = command_line().parse_args(arguments)
-    place = Place(asked.prefix, os.environ.get('DESTDIR', ''))
+    destination = Destination(asked.prefix, os.environ.get('DESTDIR', ''))
     if asked.uninstall:
-        return uninstall(place)
+        return uninstall(destination)
     if asked.check:
         from .check import check
-        return DONE if check(place) else NOT_DONE
-    return install(place, top)
+        return DONE if check(destination) else NOT_DONE
+    return install(destination, top)
 
 
 def answered(arguments: list[str], top: str) -> int:

@@ -77,7 +77,8 @@ class Putting:
         """Installs, and returns what is kept of an earlier install because it has been changed since."""
         obstacles = self.obstacles()
         if obstacles:
-            raise NotDone(f'nothing is installed, as this is in the way:{listed(obstacles)}\nMove it away, install as somebody who may write there, or choose another PREFIX')
+            raise NotDone(f'nothing is installed, as this is in the way:{listed(obstacles)}\n'
+                          'Move it away, install as somebody who may write there, or choose another PREFIX')
         with ExitStack() as undo:
             self.prepare(undo)
             with undisturbed():

@@ -15,20 +15,20 @@ from .words import NotDone, WrongUsage
 UNFIT = re.compile(r'[\x00-\x1f\x7f:;]')
 
 
-class Place:
+class Destination:
     """`prefix` is where things are in the end, `folder` where they are put."""
 
-    def __init__(self, prefix: str, destination: str) -> None:
+    def __init__(self, prefix: str, destdir: str) -> None:
         if not prefix:
             raise WrongUsage('PREFIX is empty')
         if UNFIT.search(prefix):
             raise WrongUsage('PREFIX has a line break, another control character, a colon or a semicolon in it: '
                              'PATH and its like cannot hold that')
-        if destination and not os.path.isabs(prefix):
+        if destdir and not os.path.isabs(prefix):
             raise WrongUsage(f'with DESTDIR, PREFIX is where things are in the end, and begins with /; {prefix!r} does not')
-        self.staged = bool(destination)
+        self.staged = bool(destdir)
         self.prefix = os.path.abspath(prefix)
-        self.folder = os.path.abspath(destination) + self.prefix if destination else self.prefix
+        self.folder = os.path.abspath(destdir) + self.prefix if destdir else self.prefix
 
     @contextmanager
     def tree(self) -> Iterator[Tree]:

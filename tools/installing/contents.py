@@ -23,7 +23,7 @@ def site_packages() -> str:
     return os.path.relpath(sysconfig.get_path('purelib', 'posix_prefix', {'base': '/', 'platbase': '/'}), '/')
 
 
-class Sources:
+class Contents:
     """The sources at `top`, as entries of an install."""
 
     def __init__(self, top: str) -> None:
