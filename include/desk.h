@@ -12,9 +12,11 @@
  *   until none are left.
  * - Band b of a block is the smallest b from 0 to 13 with rate at most 100 * 2^b ppm, compared without rounding; 14 if none.
  * - Pairs are one defaulted with one surviving obligor: of C the defaulted one is in the worse grade, of X in the better, of T in
- *   the same. Gini is (C - X) / DS, the ROC area (2C + T) / 2DS, the CAP area (DN + C - X) / 2DN. Pietra is the largest yS - xD
- *   over all cutoffs, over DS, where a cutoff turns away y defaults and x survivors. Brier is the sum over the grades of
- *   d(1000000 - p)^2 + sp^2, p the announced rate, over N * 10^12. Fractions have just these numerators and denominators.
+ *   the same. Gini is (C - X) / DS, the ROC area (2C + T) / 2DS, the CAP area (DN + C - X) / 2DN. Pietra is the yS - xD of
+ *   largest absolute size over all cutoffs, signed, over DS, where a cutoff turns away y defaults and x survivors: how far the
+ *   ROC curve gets from the diagonal, negative where that is below it, as on a scale that is upside down; of equal sizes the
+ *   smallest cutoff decides the sign. Brier is the sum over the grades of d(1000000 - p)^2 + sp^2, p the announced rate, over
+ *   N * 10^12. Fractions have just these numerators and denominators.
  * - A book is the tables of 1 to 16 raters in bytes, every number unsigned with its low byte first: the number R of raters and
  *   the book's length (2 bytes each), R offsets (2 bytes each, where a rater's table starts), then the tables without gaps.
  *   A table is its number of grades (1 byte), its kind (1 byte: what the first column counts, 0 obligors, 1 survivors), two
@@ -46,7 +48,7 @@
  * version does not link: the linker reports desk_library_is_version_N as undefined, N being the number below. Then take
  * header and library of one version and compile again. Who loads the library at run time by hand, and so does not link with
  * it, defines DESK_LOADED_BY_HAND before this header and compares desk_version() with DESK_VERSION. */
-#define DESK_VERSION 1
+#define DESK_VERSION 2
 
 #define DESK_GRADES 40            /* the most grades of a table */
 #define DESK_MAX_OBLIGORS 1000000 /* the most obligors of a table */
@@ -88,7 +90,7 @@ enum { DESK_EQUAL, DESK_FIRST, DESK_SECOND, DESK_CROSSING };
 /* The kind, with prices at which the first costs more and prices at which the second does; 0, 0 where there are none. */
 typedef struct DeskVerdict { uint32_t kind; DeskPrice first_dearer, second_dearer; } DeskVerdict;
 typedef struct DeskFraction { int64_t numerator, denominator; } DeskFraction; /* not reduced */
-/* D, S and the measures; cutoff is the smallest with Pietra's yS - xD. */
+/* D, S and the measures; cutoff is the smallest whose yS - xD is of Pietra's absolute size. */
 typedef struct DeskMeasures { int64_t defaults, survivors; DeskFraction gini, roc, cap, pietra; int64_t cutoff; } DeskMeasures;
 typedef struct DeskSpread { double total, residual; } DeskSpread;
 /* A table in memory is an array of rows, best grade first, and what their `count` counts: everybody in the grade, or

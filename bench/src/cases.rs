@@ -52,7 +52,7 @@ fn rising() -> Table {
     table(&rising_rows())
 }
 
-/// All grades are one block; each joins as soon as it is reached.
+/// A scale that is upside down. All grades are one block; each joins as soon as it is reached.
 fn falling() -> Table {
     let mut rows = rising_rows();
     rows.reverse();
@@ -124,6 +124,7 @@ pub fn cases() -> Vec<Case> {
         case("compare", "equal, one block", Call::Compare, alone(falling())),
         case("measures", "40 blocks", Call::Measures, alone(rising())),
         case("measures", "random", Call::Measures, alone(mixed.clone())),
+        case("measures", "upside down", Call::Measures, alone(falling())),
         case("brier", "", Call::Brier, alone(rising())),
         case("spread", "40 blocks", Call::Spread, alone(rising())),
         case("spread", "random", Call::Spread, alone(mixed.clone())),

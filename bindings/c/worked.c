@@ -134,7 +134,19 @@ static void f_reversed(void)
     Desk desk = desk_of(TABLE({2, 2, 0}, {2, 0, 0}));
     DeskMeasures measures;
     HOLDS(desk_measures(&desk, 1, &measures) == 0);
-    HOLDS(is(measures.gini, -4, 4) && is(measures.pietra, 0, 4) && measures.cutoff == 0);
+    HOLDS(is(measures.gini, -4, 4) && is(measures.pietra, -4, 4) && measures.cutoff == 1);
+}
+
+/* Document 02, R-1: equal sizes of opposite sign at cutoffs 1 and 2. */
+static void r1_smaller_cutoff(void)
+{
+    Desk plus = desk_of(TABLE({1, 1, 0}, {2, 0, 0}, {1, 1, 0}));
+    Desk minus = desk_of(TABLE({1, 0, 0}, {2, 2, 0}, {1, 0, 0}));
+    DeskMeasures measures;
+    HOLDS(desk_measures(&plus, 1, &measures) == 0);
+    HOLDS(is(measures.gini, 0, 4) && is(measures.pietra, 2, 4) && measures.cutoff == 1);
+    HOLDS(desk_measures(&minus, 1, &measures) == 0);
+    HOLDS(is(measures.gini, 0, 4) && is(measures.pietra, -2, 4) && measures.cutoff == 1);
 }
 
 static void g_first_and_second(void)
@@ -209,6 +221,7 @@ int main(void)
     b_c_d_pooling();
     e_five_grades();
     f_reversed();
+    r1_smaller_cutoff();
     g_first_and_second();
     h_crossing();
     i_equal();

@@ -1,11 +1,12 @@
-//! The rating scale desk in plain Rust, written from document 01 and REPLAY.md alone: a second
-//! opinion on the proved library. Everything is done by definition, not cleverly, so that it can
-//! be read next to the document.
+//! The rating scale desk in plain Rust, written from document 01, request R-1 of document 02 and
+//! REPLAY.md alone: a second opinion on the proved library. Everything is done by definition, not
+//! cleverly, so that it can be read next to the documents.
 //!
 //! * the library: `table`, `book`, `pooling`, `cutoff`, `measures`, `spread`, `desk`, `print`;
 //! * the scripts of REPLAY.md: `script` (calls), `answer` (lines);
-//! * the generator: `random`, `population` (tables), `partners` (pairs of tables), `draft` (books),
-//!   `damage` (of books), `operands`, `scenes`, `tail`, `generate`;
+//! * the generator: `random`, `population` (tables), `partners` (pairs of tables), `diagonal`
+//!   (tables for Pietra), `draft` (books), `damage` (of books), `operands`, `scenes`, `tail`,
+//!   `generate`;
 //! * the comparison: `compare`, `tally`;
 //! * `natural`: whole numbers of any size, for the bound on the residual.
 
@@ -15,6 +16,7 @@ pub mod compare;
 pub mod cutoff;
 pub mod damage;
 pub mod desk;
+pub mod diagonal;
 pub mod draft;
 pub mod generate;
 pub mod measures;

@@ -40,8 +40,9 @@ pub struct Measures {
     pub gini: Fraction,
     pub roc: Fraction,
     pub cap: Fraction,
+    /// Signed: negative where the curve is farthest from the diagonal below it.
     pub pietra: Fraction,
-    /// The smallest g at which Pietra's numerator is reached.
+    /// The smallest g at which the curve is that far from the diagonal.
     pub pietra_cutoff: u32,
 }
 
@@ -55,31 +56,37 @@ pub fn measures(table: &Table) -> Measures {
     let defaults = table.defaults() as i64;
     let survivors = table.survivors() as i64;
     let obligors = table.obligors() as i64;
-    let (pietra_cutoff, distance) = largest_distance(table);
+    let (pietra_cutoff, height) = farthest_height(table);
     Measures {
         defaults: table.defaults(),
         survivors: table.survivors(),
         gini: (excess, defaults * survivors),
         roc: ((2 * concordant + tied) as i64, 2 * defaults * survivors),
         cap: (defaults * obligors + excess, 2 * defaults * obligors),
-        pietra: (distance, defaults * survivors),
+        pietra: (height, defaults * survivors),
         pietra_cutoff,
     }
 }
 
-/// The largest yS - xD over all cutoffs, and the smallest g that reaches it.
-fn largest_distance(table: &Table) -> (u32, i64) {
+/// yS - xD at each cutoff, from g 0 on: the height of the curve above the diagonal, times DS;
+/// negative below it.
+pub fn heights(table: &Table) -> Vec<i64> {
     let (defaults, survivors) = (table.defaults() as i64, table.survivors() as i64);
-    let distances: Vec<i64> = cutoffs(table)
+    cutoffs(table)
         .iter()
         .map(|cutoff| cutoff.caught as i64 * survivors - cutoff.lost as i64 * defaults)
-        .collect();
-    let largest = *distances.iter().max().expect("cutoff 0 always exists");
-    let turned_away = distances.iter().position(|&distance| distance == largest);
-    (
-        turned_away.expect("it is one of the distances") as u32,
-        largest,
-    )
+        .collect()
+}
+
+/// Request R-1 of document 02: the smallest g at which yS - xD has its largest absolute size, and
+/// that yS - xD, signed. Of equal sizes on either side of the diagonal g decides the sign.
+fn farthest_height(table: &Table) -> (u32, i64) {
+    let heights = heights(table);
+    let sizes: Vec<u64> = heights.iter().map(|height| height.unsigned_abs()).collect();
+    let largest = sizes.iter().max().expect("cutoff 0 always exists");
+    let turned_away = sizes.iter().position(|size| size == largest);
+    let turned_away = turned_away.expect("it is one of the sizes");
+    (turned_away as u32, heights[turned_away])
 }
 
 /// The sum of d(1,000,000 - p)^2 + (n - d)p^2, over N times 10^12.

@@ -7,7 +7,7 @@ use crate::random::Random;
 use crate::table::{Table, MAX_GRADES, MAX_OBLIGORS};
 
 /// A table with at least one default and one survivor.
-fn mixed_outcomes(random: &mut Random) -> Table {
+pub fn mixed_outcomes(random: &mut Random) -> Table {
     loop {
         let table = any_table(random);
         if table.defaults() > 0 && table.survivors() > 0 {

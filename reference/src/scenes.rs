@@ -2,6 +2,7 @@
 
 use crate::book;
 use crate::damage::{any_way, WAYS};
+use crate::diagonal::table_for_pietra;
 use crate::draft::Draft;
 use crate::generate::Generator;
 use crate::partners::{one_sided, other_obligors, partner, same_obligors};
@@ -13,10 +14,11 @@ use crate::table::{Table, MAX_GRADES, MAX_OBLIGORS};
 pub type Scene = (&'static str, fn(&mut Generator));
 
 /// How often each scene is taken, in proportion.
-pub const SCENES: [(u64, Scene); 9] = [
+pub const SCENES: [(u64, Scene); 10] = [
     (40, ("two raters, same obligors", Generator::same_obligors)),
     (6, ("two raters, other obligors", Generator::other_obligors)),
     (14, ("one table, all questions", Generator::one_table)),
+    (24, ("far from the diagonal", Generator::far_from_diagonal)),
     (30, ("damaged book", Generator::damaged_book)),
     (22, ("several faults at once", Generator::several_faults)),
     (2, ("junk for a book", Generator::junk_book)),
@@ -82,6 +84,16 @@ impl Generator {
             draft.rater = right;
         }
         draft
+    }
+
+    /// Where and on which side the curve is farthest from the diagonal.
+    fn far_from_diagonal(&mut self) {
+        let place = self.random.pick(&[1, 2]);
+        self.empty(place);
+        let table = table_for_pietra(&mut self.random);
+        let draft = Draft::around(&mut self.random, &table);
+        self.load(place, draft);
+        self.emit(Call::Measures { place });
     }
 
     fn damaged_book(&mut self) {

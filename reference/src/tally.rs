@@ -1,11 +1,14 @@
-//! How often one run exercises which operations, verdicts, refusal numbers, buffers and scenes.
+//! How often one run exercises which operations, verdicts, kinds of Pietra, refusal numbers,
+//! buffers and scenes.
 
 use crate::answer::{verdict_name, Answer};
 use crate::compare::plan;
 use crate::desk::Desk;
 use crate::generate::Script;
+use crate::measures::{heights, Measures};
 use crate::script::Call;
-use crate::table::Refusal;
+use crate::table::{Refusal, Table};
+use std::cmp::Ordering;
 use std::collections::BTreeMap;
 
 #[derive(Default)]
@@ -15,6 +18,8 @@ pub struct Tally {
     /// Accepted and refused calls of each operation.
     operations: BTreeMap<&'static str, (usize, usize)>,
     verdicts: BTreeMap<&'static str, usize>,
+    /// On which side the curve is farthest from the diagonal, and where else it is as far.
+    pietras: BTreeMap<(&'static str, &'static str), usize>,
     /// For each refusal number, the calls of each operation.
     refusals: BTreeMap<Refusal, BTreeMap<&'static str, usize>>,
     /// Lent buffers against what the call needs.
@@ -39,6 +44,7 @@ impl Tally {
         for (call, scene) in script.calls.iter().zip(&script.scenes) {
             *self.scenes.entry(scene).or_default() += 1;
             self.add_buffer(&desk, call);
+            self.add_pietra(&desk, call);
             let answer = desk.call(call);
             self.add_answer(call.name(), &answer);
         }
@@ -79,11 +85,22 @@ impl Tally {
         *self.buffers.entry((call.name(), fit)).or_default() += 1;
     }
 
+    fn add_pietra(&mut self, desk: &Desk, call: &Call) {
+        let Call::Measures { place } = *call else {
+            return;
+        };
+        if let (Ok(table), Ok(measures)) = (desk.table(place), desk.measures(place)) {
+            let kind = pietra_kind(table, &measures);
+            *self.pietras.entry(kind).or_default() += 1;
+        }
+    }
+
     /// The tables, as Markdown.
     pub fn markdown(&self) -> String {
         [
             self.operation_table(),
             self.verdict_table(),
+            self.pietra_table(),
             self.refusal_table(),
             self.buffer_table(),
             self.scene_table(),
@@ -110,6 +127,15 @@ impl Tally {
         let mut text = "| verdict | times |\n| --- | --- |\n".to_string();
         for (verdict, times) in &self.verdicts {
             text += &format!("| {verdict} | {times} |\n");
+        }
+        text
+    }
+
+    fn pietra_table(&self) -> String {
+        let mut text =
+            "| Pietra | as far from the diagonal | times |\n| --- | --- | --- |\n".to_string();
+        for ((side, as_far), times) in &self.pietras {
+            text += &format!("| {side} | {as_far} | {times} |\n");
         }
         text
     }
@@ -142,4 +168,23 @@ impl Tally {
         }
         text
     }
+}
+
+/// The side of the diagonal that Pietra is on, and what else comes as close.
+fn pietra_kind(table: &Table, measures: &Measures) -> (&'static str, &'static str) {
+    let height = measures.pietra.0;
+    let side = match height.cmp(&0) {
+        Ordering::Greater => "above the diagonal",
+        Ordering::Less => "below the diagonal",
+        Ordering::Equal => return ("on the diagonal", "all cutoffs"),
+    };
+    let heights = heights(table);
+    let later = &heights[measures.pietra_cutoff as usize + 1..];
+    let as_far = match height.signum() - height {
+        _ if later.contains(&-height) => "a later cutoff on the other side",
+        _ if later.contains(&height) => "a later cutoff on the same side",
+        one_less if heights.contains(&one_less) => "none, but 1 less on the other side",
+        _ => "none",
+    };
+    (side, as_far)
 }

@@ -1,6 +1,7 @@
 //! The comparison itself: it accepts lawful answers and notices every other.
 
 use reference::compare::{answers, compare, judge};
+use reference::desk::Desk;
 use reference::generate::Script;
 use reference::script::decode;
 use reference::tally::Tally;
@@ -23,6 +24,23 @@ fn scripts_decode_to_their_calls() {
             "seed {seed}"
         );
     }
+}
+
+#[test]
+fn tables_for_pietra_are_loaded_and_measured() {
+    let mut measured = 0;
+    for seed in 0..200 {
+        let script = Script::generate(seed, 100);
+        let mut desk = Desk::fresh();
+        for (call, &scene) in script.calls.iter().zip(&script.scenes) {
+            let answer = desk.call(call);
+            if scene == "far from the diagonal" {
+                assert_eq!(answer.refusal(), None, "seed {seed}, {call}");
+                measured += usize::from(call.name() == "measures");
+            }
+        }
+    }
+    assert!(measured > 500, "{measured}");
 }
 
 #[test]
@@ -169,12 +187,28 @@ fn another_program_fails() {
     assert!(compare("no such program", 7, 50).is_err());
 }
 
+/// The rows of the tally that say what Pietra was.
+fn pietras() -> Vec<String> {
+    let mut rows = vec!["on the diagonal | all cutoffs".to_string()];
+    for side in ["above", "below"] {
+        for as_far in [
+            "none",
+            "none, but 1 less on the other side",
+            "a later cutoff on the same side",
+            "a later cutoff on the other side",
+        ] {
+            rows.push(format!("{side} the diagonal | {as_far}"));
+        }
+    }
+    rows
+}
+
 #[test]
 fn a_run_exercises_everything() {
     let table = Tally::of_run(1, 20_000).markdown();
     let expected = ["crossing", "equal", "first", "second"].map(String::from);
     let refusals = (1..=13).chain(21..=25).map(|number| number.to_string());
-    for row in expected.into_iter().chain(refusals) {
+    for row in expected.into_iter().chain(refusals).chain(pietras()) {
         let start = format!("| {row} | ");
         let line = table.lines().find(|line| line.starts_with(&start));
         let times = line.and_then(|line| line[start.len()..].split(' ').next()?.parse().ok());

@@ -1,7 +1,7 @@
 //! The definitions once more, by still plainer means, on small random tables.
 
 use reference::cutoff::{cheapest_cost, cutoffs, verdict, Price, Verdict};
-use reference::measures::pairs;
+use reference::measures::{measures, pairs};
 use reference::natural::Natural;
 use reference::pooling::{blocks, pooled_scale, Rate};
 use reference::random::Random;
@@ -92,17 +92,23 @@ fn a_table_and_its_pooled_scale_are_equal() {
     }
 }
 
+/// The obligors one by one: the index of the grade, and whether this one defaulted.
+fn people(table: &Table) -> Vec<(usize, bool)> {
+    let mut people = Vec::new();
+    for (index, grade) in table.grades.iter().enumerate() {
+        for person in 0..grade.obligors {
+            people.push((index, person < grade.defaults));
+        }
+    }
+    people
+}
+
 #[test]
 fn pairs_agree_with_counting_obligors_one_by_one() {
     for seed in 0..500 {
         let mut random = Random::of_seed(seed);
         let table = small_table(&mut random, 7, 8);
-        let mut people = Vec::new();
-        for (index, grade) in table.grades.iter().enumerate() {
-            for person in 0..grade.obligors {
-                people.push((index, person < grade.defaults));
-            }
-        }
+        let people = people(&table);
         let mut counted = (0, 0, 0);
         for &(bad_grade, _) in people.iter().filter(|person| person.1) {
             for &(good_grade, _) in people.iter().filter(|person| !person.1) {
@@ -114,6 +120,68 @@ fn pairs_agree_with_counting_obligors_one_by_one() {
         let pairs = pairs(&table);
         assert_eq!(counted, (pairs.concordant, pairs.discordant, pairs.tied));
     }
+}
+
+/// yS - xD by going through the pairs: each one adds 1 if the cutoff turns away its defaulted
+/// obligor, and takes 1 off if it turns away its surviving one.
+fn height_by_pairs(table: &Table, turned_away: usize) -> i64 {
+    let people = people(table);
+    let accepted = table.grades.len() - turned_away;
+    let mut height = 0;
+    for &(bad_grade, _) in people.iter().filter(|person| person.1) {
+        for &(good_grade, _) in people.iter().filter(|person| !person.1) {
+            height += i64::from(bad_grade >= accepted) - i64::from(good_grade >= accepted);
+        }
+    }
+    height
+}
+
+#[test]
+fn pietra_is_the_first_of_the_heights_of_largest_size() {
+    let mut seen = [0; 7];
+    for seed in 0..4_000 {
+        let mut random = Random::of_seed(seed);
+        let (defaults, survivors) = (random.between(1, 8), random.between(1, 8));
+        let table = small_table(&mut random, defaults, survivors);
+        let heights: Vec<i64> = (0..=table.grades.len())
+            .map(|turned_away| height_by_pairs(&table, turned_away))
+            .collect();
+        let measures = measures(&table);
+        let cutoff = measures.pietra_cutoff as usize;
+        let height = heights[cutoff];
+        let pairs = (defaults * survivors) as i64;
+        assert_eq!(measures.pietra, (height, pairs), "{table:?}");
+        let (milder, stricter) = (&heights[..cutoff], &heights[cutoff + 1..]);
+        assert!(
+            milder.iter().all(|other| other.abs() < height.abs()),
+            "{table:?}"
+        );
+        assert!(
+            stricter.iter().all(|other| other.abs() <= height.abs()),
+            "{table:?}"
+        );
+        for (times, is_seen) in seen.iter_mut().zip(pietra_kinds(height, stricter)) {
+            *times += usize::from(is_seen);
+        }
+    }
+    assert!(seen.iter().all(|&times| times > 50), "{seen:?}");
+}
+
+/// What a height of largest size can be, given those of the stricter cutoffs: on the diagonal,
+/// above or below it, and from above or below as far from it on the other or the same side.
+fn pietra_kinds(height: i64, stricter: &[i64]) -> [bool; 7] {
+    let (above, below) = (height > 0, height < 0);
+    let other_side = stricter.contains(&-height);
+    let same_side = stricter.contains(&height);
+    [
+        height == 0,
+        above,
+        below,
+        above && other_side,
+        below && other_side,
+        above && same_side,
+        below && same_side,
+    ]
 }
 
 #[test]

@@ -1,4 +1,5 @@
-//! The worked tables a to k of document 01, and book K.
+//! The worked tables a to k of document 01, and book K; table f and Pietra as request R-1 of
+//! document 02 has them.
 
 use reference::book;
 use reference::cutoff::{cheapest_cost, verdict, Price, Verdict};
@@ -102,7 +103,49 @@ fn e_the_five_grade_table() {
 fn f_a_reversed_scale() {
     let measures = measures(&rows(&[(2, 2), (2, 0)]));
     assert_eq!(measures.gini, (-4, 4));
-    assert_eq!((measures.pietra, measures.pietra_cutoff), ((0, 4), 0));
+    assert_eq!((measures.pietra, measures.pietra_cutoff), ((-4, 4), 1));
+}
+
+/// Pietra and its g.
+fn pietra(table: &[(u64, u64)]) -> ((i64, i64), u32) {
+    let measures = measures(&rows(table));
+    (measures.pietra, measures.pietra_cutoff)
+}
+
+#[test]
+fn r1_of_equal_sizes_on_either_side_the_smaller_g_decides_the_sign() {
+    assert_eq!(pietra(&[(1, 1), (2, 0), (1, 1)]), ((2, 4), 1));
+    assert_eq!(pietra(&[(1, 0), (2, 2), (1, 0)]), ((-2, 4), 1));
+}
+
+#[test]
+fn r1_of_equal_sizes_on_one_side_the_smaller_g_is_taken() {
+    assert_eq!(pietra(&[(2, 0), (2, 1), (2, 2)]), ((6, 9), 1));
+    assert_eq!(pietra(&[(2, 2), (2, 1), (2, 0)]), ((-6, 9), 1));
+}
+
+#[test]
+fn r1_the_larger_size_is_taken_on_either_side() {
+    assert_eq!(pietra(&[(2, 2), (3, 0), (1, 1)]), ((-6, 9), 2));
+    assert_eq!(pietra(&[(2, 0), (3, 3), (1, 0)]), ((6, 9), 2));
+}
+
+#[test]
+fn r1_sizes_are_told_apart_to_the_last_unit() {
+    // Heights of 50,000,050,000 at g 1 and one more on the other side at g 2, over 999,999 obligors.
+    let below = [(200_002, 150_001), (599_997, 199_998), (200_000, 150_000)];
+    assert_eq!(pietra(&below), ((-50_000_050_001, 249_999_500_000), 2));
+    let above = below.map(|(obligors, defaults)| (obligors, obligors - defaults));
+    assert_eq!(pietra(&above), ((50_000_050_001, 249_999_500_000), 2));
+    // 4,200,000,000 at g 1 and 4,900,000,000 at g 2, which only as a 32-bit number is smaller.
+    let rising = [(70_000, 0), (10_000, 10_000), (60_000, 60_000)];
+    assert_eq!(pietra(&rising), ((4_900_000_000, 4_900_000_000), 2));
+}
+
+#[test]
+fn r1_noise_is_on_the_diagonal() {
+    assert_eq!(pietra(&[(10, 2), (20, 4), (5, 1)]), ((0, 196), 0));
+    assert_eq!(pietra(&[(5, 2)]), ((0, 6), 0));
 }
 
 #[test]

@@ -84,16 +84,20 @@ def pairs(grades: Grades) -> tuple[int, int, int]:
 
 
 def measures(grades: Grades) -> dict[str, tuple[int, int]]:
-    """Gini, ROC area, CAP area and Pietra as numerators and denominators, and Pietra's cutoff. There must be defaults and survivors."""
+    """Gini, ROC area, CAP area and Pietra as numerators and denominators, and Pietra's cutoff. There must be defaults and survivors.
+
+    Pietra is document 02's, R-1: the height of largest absolute size, at the first cutoff that has that size."""
     obligors, defaults, survivors = totals(grades)
     c, x, t = pairs(grades)
     heights = []
     for cutoff in range(len(grades) + 1):
         away = grades[len(grades) - cutoff:]
         heights.append(sum(d for _, d, _ in away) * survivors - sum(n - d for n, d, _ in away) * defaults)
+    sizes = [abs(height) for height in heights]
+    cutoff = sizes.index(max(sizes))
     return {'gini': (c - x, defaults * survivors), 'roc': (2 * c + t, 2 * defaults * survivors),
-            'cap': (defaults * obligors + c - x, 2 * defaults * obligors), 'pietra': (max(heights), defaults * survivors),
-            'pietra_cutoff': heights.index(max(heights))}
+            'cap': (defaults * obligors + c - x, 2 * defaults * obligors), 'pietra': (heights[cutoff], defaults * survivors),
+            'pietra_cutoff': cutoff}
 
 
 def measures_refusal(grades: Grades) -> int | None:

@@ -27,6 +27,13 @@ def measures_data(grades: Grades) -> dict[str, Any]:
     return data
 
 
+def about_measures(*measures: dict[str, Any]) -> list[str]:
+    """The lines below a table of measures."""
+    below = any(each['pietra'] and each['pietra']['numerator'] < 0 for each in measures)
+    return ['Higher is better; of Brier, which scores the announced rates, lower.'] + [
+        'A negative Pietra: the ROC curve is farthest from the diagonal below it, as on a scale that is upside down.'] * below
+
+
 # compare
 
 def price_data(price: Sequence[int]) -> dict[str, int]:

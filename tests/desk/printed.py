@@ -89,7 +89,7 @@ def compared(text: str) -> dict[str, Any]:
             'ranges': [{**price_range(words), 'cheaper': who(cheaper, names)} for words, cheaper in tables.get('price ratio u:v', [])],
             'costs': [{**price(at), 'first': cutoff(a), 'second': cutoff(b), 'cheaper': who(cheaper, names)}
                       for at, a, b, cheaper in costs],
-            'headings': cells(parts[-1][0]), 'measures': dict(zip(('first', 'second'), measures(parts[-1][1:7], 2)))}
+            'headings': cells(parts[-1][0]), 'measures': dict(zip(('first', 'second'), measures(parts[-1][1:7], 2))), 'about': parts[-1][7:]}
 
 
 # show
@@ -99,7 +99,8 @@ def in_full(text: str) -> dict[str, Any]:
     parts = sections(text)
     spread = re.fullmatch(r'Spread: (\S+) in all, (\S+) within the blocks\.', parts[-1][-1])
     return {'rater': summary(parts[0][0]), 'heading': cells(parts[1][0]), 'grades': [cells(line) for line in parts[1][1:-2]],
-            'measures': measures(parts[-1][:6], 1)[0], 'spread': {'total': float(spread[1]), 'residual': float(spread[2])}}
+            'measures': measures(parts[-1][:6], 1)[0], 'about': parts[-1][6:-1],
+            'spread': {'total': float(spread[1]), 'residual': float(spread[2])}}
 
 
 def at_a_glance(text: str) -> dict[str, Any]:

@@ -16,7 +16,7 @@ sys.path.insert(0, os.path.dirname(os.path.abspath(__file__)))
 from running import EXAMPLES, Case, book_of, content_of, csv_text, example, run  # noqa: E402
 from books import described  # noqa: E402
 from definitions import totals  # noqa: E402
-from expected import compare_data  # noqa: E402
+from expected import about_measures, compare_data  # noqa: E402
 from scales import AGENCY, INHOUSE, Scale, by, rater_of  # noqa: E402
 from test_ranges import pair  # noqa: E402
 import printed  # noqa: E402
@@ -54,6 +54,7 @@ class Comparing(Case):
         ranges = [each for each in data['ranges'] if each['from'] != each['to'] or each['from']['u'] * each['from']['v']]
         self.assertEqual(text['ranges'], [] if data['verdict'] == 'equal' else ranges)
         self.assertEqual(text['headings'], [first.name, second.name])
+        self.assertEqual(text['about'], about_measures(*data['measures'].values()))
         costs = data['separating'] + data['prices']
         for found in costs:
             for key, scale in (('first', first), ('second', second)):

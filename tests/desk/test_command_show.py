@@ -17,7 +17,7 @@ sys.path.insert(0, os.path.dirname(os.path.abspath(__file__)))
 from running import EXAMPLES, Case, ask, book_of, content_of, csv_text, example, examples, run  # noqa: E402
 from books import described  # noqa: E402
 from definitions import decimal, measures_refusal, spread  # noqa: E402
-from expected import grades_data, line_data, measures_data, rater_data  # noqa: E402
+from expected import about_measures, grades_data, line_data, measures_data, rater_data  # noqa: E402
 from scales import AGENCY, INHOUSE, Scale, by, kinds_in, rater_of  # noqa: E402
 import printed  # noqa: E402
 
@@ -62,7 +62,7 @@ class Showing(Case):
                                 'spread': data['spread'], 'refusals': data['refusals'], 'questions': data['questions']})
         self.assertEqual([each['number'] for each in data['refusals']], [refusal] if refusal else [])
         self.assertEqual(text, {'rater': data['rater'], 'heading': GRADES_HEADING, 'grades': [grade_cells(grade) for grade in grades],
-                                'measures': data['measures'], 'spread': data['spread']})
+                                'measures': data['measures'], 'about': about_measures(data['measures']), 'spread': data['spread']})
         self.see_spread(scale, data['spread'])
         if refusal:
             self.assertIn(f'refused {refusal}: {MEANINGS[refusal]}; the measures of {scale.name}', as_text.err)
@@ -100,6 +100,11 @@ class Examples(Showing):
         data = self.shown(rater_of(example('five.book'), 1)._replace(name='five'))
         self.assertEqual([grade['band'] for grade in data['grades']], [10, 12, 13, 14, 14])
         self.assertEqual(data['measures']['gini']['decimal'], '0.820000')
+
+    def test_a_scale_that_is_upside_down(self) -> None:
+        rows = [(2, 2, 0), (2, 0, 0)]
+        found = self.shown(Scale('a', self.put('a.book', book_of([('obligors', rows)])), 1, 'obligors', rows))['measures']
+        self.assertEqual((found['pietra']['decimal'], found['pietra_cutoff']), ('-1.000000', 1))
 
     def test_columns_stand_below_each_other(self) -> None:
         for path in (INHOUSE.file, example('portfolio.book')):

@@ -79,7 +79,12 @@ class WorkedTables(unittest.TestCase):
 
     def test_f_a_reversed_scale(self) -> None:
         found = loaded(Desk(), [(2, 2), (2, 0)]).measures(1)
-        self.assertEqual((found.gini.written, found.pietra.written, found.cutoff), ((-4, 4), (0, 4), 0))
+        self.assertEqual((found.gini.written, found.pietra.written, found.cutoff), ((-4, 4), (-4, 4), 1))
+
+    def test_r1_the_smaller_of_two_equally_far_cutoffs(self) -> None:
+        for rows, pietra in ([(1, 1), (2, 0), (1, 1)], (2, 4)), ([(1, 0), (2, 2), (1, 0)], (-2, 4)):
+            found = loaded(Desk(), rows).measures(1)
+            self.assertEqual((found.pietra.written, found.cutoff), (pietra, 1))
 
     def test_g_the_finer_scale_is_first(self) -> None:
         desk = loaded(Desk(), *G)

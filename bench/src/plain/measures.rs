@@ -29,14 +29,14 @@ fn count_pairs(table: &Table) -> (i64, u32, u32) {
     (excess, defaults, survivors)
 }
 
-/// The largest y S - x D over all cutoffs and the smallest cutoff that has it.
-fn highest(table: &Table, defaults: u32, survivors: u32) -> (i64, u32) {
-    let (mut height, mut cutoff) = (0i64, 0u32);
+/// The y S - x D of largest absolute size over all cutoffs, signed, and the smallest cutoff that has it.
+fn farthest(table: &Table, defaults: u32, survivors: u32) -> (i64, u32) {
+    let (mut height, mut distance, mut cutoff) = (0i64, 0u64, 0u32);
     let mut here = 0i64;
     for (turned, (n, d)) in (1..).zip(table.counts().rev()) {
         here += i64::from(d) * i64::from(survivors) - i64::from(n - d) * i64::from(defaults);
-        if here > height {
-            (height, cutoff) = (here, turned);
+        if here.unsigned_abs() > distance {
+            (height, distance, cutoff) = (here, here.unsigned_abs(), turned);
         }
     }
     (height, cutoff)
@@ -50,7 +50,7 @@ pub fn measures(table: &Table) -> Result<Measures, Refusal> {
     if survivors == 0 {
         return Err(24);
     }
-    let (height, cutoff) = highest(table, defaults, survivors);
+    let (height, cutoff) = farthest(table, defaults, survivors);
     let pairs = i64::from(defaults) * i64::from(survivors);
     let profile = i64::from(defaults) * i64::from(defaults + survivors);
     let fraction = |numerator, denominator| Fraction { numerator, denominator };

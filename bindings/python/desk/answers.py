@@ -82,8 +82,8 @@ class Measures(NamedTuple):
     gini: WrittenFraction  # the accuracy ratio: negative for a scale that is upside down
     roc: WrittenFraction  # the area under the ROC curve
     cap: WrittenFraction  # the area under the CAP curve
-    pietra: WrittenFraction  # the largest height of the ROC curve above the diagonal; 0 at cutoff 0 where it is nowhere above
-    cutoff: int  # the smallest with that height
+    pietra: WrittenFraction  # the ROC curve's height above the diagonal where it is farthest from it: negative where that is below
+    cutoff: int  # the smallest at which it is so far, on either side: it decides the sign
 
     def __str__(self) -> str:
         return (f'Gini {self.gini}, ROC area {self.roc}, CAP area {self.cap}, Pietra {self.pietra} at cutoff {self.cutoff}; '

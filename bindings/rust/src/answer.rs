@@ -98,10 +98,10 @@ pub struct Measures {
     pub roc: Fraction,
     /// The area under the CAP curve.
     pub cap: Fraction,
-    /// The largest height of the ROC curve above the diagonal, over all cutoffs; 0 at cutoff 0 where
-    /// it is nowhere above.
+    /// How far the ROC curve gets from the diagonal, over all cutoffs: its height above the diagonal
+    /// where that is of largest absolute size, negative below it, as for a scale that is upside down.
     pub pietra: Fraction,
-    /// The smallest cutoff with that height.
+    /// The smallest cutoff at which it gets so far, on either side; it decides the sign.
     pub cutoff: i64,
 }
 

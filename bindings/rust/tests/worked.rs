@@ -88,7 +88,18 @@ fn f_a_reversed_scale() {
     let desk = desk_of(&[(2, 2), (2, 0)]);
     let measures = desk.measures(Place::First).expect("mixed");
     assert_eq!(measures.gini.written(), (-4, 4));
-    assert_eq!((measures.pietra.written(), measures.cutoff), ((0, 4), 0));
+    assert_eq!((measures.pietra.written(), measures.cutoff), ((-4, 4), 1));
+}
+
+#[test]
+fn r1_the_smaller_of_two_equally_far_cutoffs() {
+    for (rows, pietra) in [
+        ([(1, 1), (2, 0), (1, 1)], (2, 4)),
+        ([(1, 0), (2, 2), (1, 0)], (-2, 4)),
+    ] {
+        let measures = desk_of(&rows).measures(Place::First).expect("mixed");
+        assert_eq!((measures.pietra.written(), measures.cutoff), (pietra, 1));
+    }
 }
 
 #[test]

@@ -1,4 +1,4 @@
--- The worked tables of document 01 that bear a star, as rows of one theorem about the definitions.
+-- The worked tables of document 01 that bear a star, and those of document 02's requests, as rows of one theorem about the definitions.
 use Prim.Native.Nat.{ℕ}
 use mathlib.Core.Path.{_≡_}
 use mathlib.Core.List.{List, [], _∷_}
@@ -13,7 +13,7 @@ use Rattle.cutoff.specs.declared.Price.{Price}
 use Rattle.cutoff.specs.declared.Verdict.{Verdict}
 use Rattle.cutoff.specs.declared.Verdict.the-variants.{Equal, First, Crossing}
 use Rattle.measures.specs.Pairs.{concordant, discordant, tied}
-use Rattle.measures.specs.Measures.{measuresOf}
+use Rattle.measures.specs.Measures.{height, measuresOf}
 use Rattle.calls.specs.Answers.{Answer, accepted}
 use Rattle.calls.specs.Calls.{load, Compared}
 use Rattle.desk.specs.Calls.{change}
@@ -46,6 +46,13 @@ five = row 30 2 ∷ row 18 4 ∷ row 15 10 ∷ row 16 14 ∷ row 21 20 ∷ []
 -- a scale that is upside down
 abbrev pub reversed : Table
 reversed = row 2 2 ∷ row 2 0 ∷ []
+
+-- two scales whose curves are as far above the diagonal as below it: the defaults stand at both ends, and in the middle
+abbrev pub endsDefault : Table
+endsDefault = row 1 1 ∷ row 2 0 ∷ row 1 1 ∷ []
+
+abbrev pub middleDefaults : Table
+middleDefaults = row 1 0 ∷ row 2 2 ∷ row 1 0 ∷ []
 
 -- three grades, and two over the same obligors
 abbrev pub fine : Table
@@ -83,9 +90,20 @@ pub record Worked : Type 0 where
   pub e-roc : measuresOf five .roc ≡ record { numerator = 4550; denominator = 5000 }
   pub e-pietra : (measuresOf five .pietra ≡ record { numerator = pos 1800; denominator = 2500 }) × (measuresOf five .cutoff ≡ 3)
   pub e-bands : pooledInto five [] ≡ 2 ∷ 30 ∷ 10 ∷ 4 ∷ 18 ∷ 12 ∷ 10 ∷ 15 ∷ 13 ∷ 14 ∷ 16 ∷ 14 ∷ 20 ∷ 21 ∷ 14 ∷ []
-  -- Gini -4/4, Pietra 0/4 at g 0
+  -- Gini -4/4; by R-1, "Table f then reads −4/4 at g 1"
   pub f-gini : measuresOf reversed .gini ≡ record { numerator = negsuc 3; denominator = 4 }
-  pub f-pietra : (measuresOf reversed .pietra ≡ record { numerator = pos 0; denominator = 4 }) × (measuresOf reversed .cutoff ≡ 0)
+  pub f-pietra : (measuresOf reversed .pietra ≡ record { numerator = negsuc 3; denominator = 4 }) × (measuresOf reversed .cutoff ≡ 1)
+  -- R-1: "of two equal sizes at different g the smaller g also decides the sign": once for plus, once for minus
+  pub r1-plus :
+      (height endsDefault 1 ≡ pos 2)
+      × (height endsDefault 2 ≡ negsuc 1)
+      × (measuresOf endsDefault .pietra ≡ record { numerator = pos 2; denominator = 4 })
+      × (measuresOf endsDefault .cutoff ≡ 1)
+  pub r1-minus :
+      (height middleDefaults 1 ≡ negsuc 1)
+      × (height middleDefaults 2 ≡ pos 2)
+      × (measuresOf middleDefaults .pietra ≡ record { numerator = negsuc 1; denominator = 4 })
+      × (measuresOf middleDefaults .cutoff ≡ 1)
   -- First, and no other answer
   pub g : (r : Answer Verdict) → Between fine coarse r → (p : Price) × (r ≡ accepted (First p))
   pub g-shown : Between fine coarse (accepted (First (price 1 1)))

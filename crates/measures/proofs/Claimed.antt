@@ -4,7 +4,7 @@ use Rattle.measures.proofs.Listed.{obligors-are-listed}
 use Rattle.measures.proofs.Counted.{obligors-are-counted, pairs-are-counted}
 use Rattle.measures.proofs.Pairs.{every-pair}
 use Rattle.measures.proofs.Curves.{roc-is-area, cap-is-area, gini-is-ratio, gini-is-difference, roc-is-half}
-use Rattle.measures.proofs.Pietra.{pietra-is-largest, smaller-is-lower}
+use Rattle.measures.proofs.Pietra.{pietra-is-largest, smaller-is-nearer}
 use Rattle.measures.proofs.Outcomes.{brier-is-mean}
 use Rattle.measures.proofs.Proper.{measures-proper, brier-proper}
 
@@ -20,7 +20,7 @@ claimed = record {
   gini-is-the-difference-of-probabilities = gini-is-difference;
   roc-is-half-of-gini-and-one = roc-is-half;
   pietra-is-the-largest-distance = pietra-is-largest;
-  no-smaller-cutoff-is-as-high = smaller-is-lower;
+  no-smaller-cutoff-is-as-far = smaller-is-nearer;
   brier-is-the-mean-squared-difference = brier-is-mean;
   measures-are-proper = measures-proper;
   brier-is-proper = brier-proper;

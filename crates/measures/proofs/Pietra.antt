@@ -1,22 +1,23 @@
--- Pietra is the largest vertical distance of the two shares, at the smallest cutoff that has it.
+-- Pietra is the vertical distance of the two shares of largest absolute size, at the smallest cutoff that has it.
 use Prim.Native.Nat.{ℕ, _*_, _≤_, _<_}
 use native.Mathlib.Nat.{mul-pos}
 use native.Mathlib.Omega.{arith}
+use lib.Dec.{ltb→lt, nltb→le}
+use lib.IntN.{natAbs}
 use lib.ListN.{length}
-use lib.Signed.{_<ℤ_, ltZ-yes, ltZ-no}
 use Rattle.table.specs.Table.{Table, defaultsIn, survivorsIn}
 use Rattle.pooling.specs.Fraction.{AtMost, Equal}
 use Rattle.pooling.proofs.Scaled.{Over, over-difference, over-same, at-most, equal, over-ratio}
 use Rattle.cutoff.specs.Cutoff.{caught, lost}
 use Rattle.cutoff.proofs.Best.{IsBest, is-best}
-use Rattle.measures.specs.Measures.{pairs, height, higher, pietraAt, measuresOf}
-use Rattle.measures.specs.Published.{signedValue, verticalDistance}
+use Rattle.measures.specs.Measures.{pairs, height, farther, pietraAt, measuresOf}
+use Rattle.measures.specs.Published.{signedValue, verticalDistance, absolute}
 use Rattle.measures.specs.Claims.{Mixed}
-use Rattle.measures.proofs.Signed.{sub-le, higher-order}
-use Rattle.measures.proofs.Fractions.{over-signed}
+use Rattle.measures.proofs.Signed.{larger-order}
+use Rattle.measures.proofs.Fractions.{over-signed, over-absolute}
 
-pub highest : (t : Table) → IsBest higher (height t) (length t) (pietraAt t)
-highest t = is-best higher higher-order (height t) (length t)
+pub farthest : (t : Table) → IsBest farther (height t) (length t) (pietraAt t)
+farthest t = is-best farther (larger-order natAbs) (height t) (length t)
 
 -- The distance is y S - x D over D S.
 distance-over : (t : Table) (g : ℕ) → Over (pairs t) (lost t g * defaultsIn t) (verticalDistance t g) (caught t g * survivorsIn t)
@@ -34,15 +35,17 @@ pietra-over t = over-signed _ _ (pairs t)
 pub pietra-is-largest : (t : Table) → Mixed t
     → (measuresOf t .cutoff ≤ length t)
     × Equal (signedValue (measuresOf t .pietra)) (verticalDistance t (measuresOf t .cutoff))
-    × ((g : ℕ) → g ≤ length t → AtMost (verticalDistance t g) (signedValue (measuresOf t .pietra)))
+    × ((g : ℕ) → g ≤ length t → AtMost (absolute (verticalDistance t g)) (absolute (signedValue (measuresOf t .pietra))))
 unfolding measuresOf
 pietra-is-largest t mixed =
     let some = mul-pos (mixed .defaulted) (mixed .survived) in (
-      highest t .within,
+      farthest t .within,
       equal (pietra-over t) (distance-over t (pietraAt t)) some (omega arith),
-      λ g l. at-most (distance-over t g) (pietra-over t) some (sub-le _ _ _ _ (ltZ-no (highest t .none-better g l))),
+      λ g l.
+      at-most (over-absolute (distance-over t g)) (over-absolute (pietra-over t)) some
+      (omega (arith, nltb→le (natAbs (height t (pietraAt t))) (natAbs (height t g)) (farthest t .none-better g l))),
     )
 
-pub smaller-is-lower : (t : Table) (g : ℕ) → g < pietraAt t → height t g <ℤ measuresOf t .pietra .numerator
+pub smaller-is-nearer : (t : Table) (g : ℕ) → g < measuresOf t .cutoff → natAbs (height t g) < natAbs (measuresOf t .pietra .numerator)
 unfolding measuresOf
-smaller-is-lower t g l = ltZ-yes (highest t .smaller-worse g l)
+smaller-is-nearer t g l = ltb→lt (natAbs (height t g)) (natAbs (height t (pietraAt t))) (farthest t .smaller-worse g l)

@@ -9,7 +9,7 @@ use Rattle.table.proofs.Sums.{obligors-split}
 use Rattle.pooling.specs.Fraction.{Fraction, Proper, nought, ratio, sum, difference, square, product}
 use Rattle.measures.specs.Brier.{brierOf}
 use Rattle.measures.specs.Measures.{pairs, measuresOf}
-use Rattle.measures.specs.Published.{value, over, areaUnder, Outcome, outcomes, squaredDifferences, meanSquaredDifference}
+use Rattle.measures.specs.Published.{value, over, absolute, areaUnder, Outcome, outcomes, squaredDifferences, meanSquaredDifference}
 use Rattle.measures.specs.Claims.{Mixed, ProperMeasures}
 use Rattle.measures.proofs.Counted.{pairs-are-counted}
 use Rattle.measures.proofs.Outcomes.{length-outcomes}
@@ -25,7 +25,7 @@ area-proper x y X Y (suc k) =
     mul-pos (area-proper x y X Y k) (mul-pos (mul-pos (X (suc k)) (X k)) (omega (arith, mul-pos (Y k) (Y (suc k)))))
 
 pub measures-proper : (t : Table) → Mixed t → ProperMeasures t
-unfolding measuresOf ratio difference
+unfolding measuresOf ratio difference absolute
 measures-proper t mixed =
     let d = mixed .defaulted in
     let s = mixed .survived in
@@ -41,6 +41,8 @@ measures-proper t mixed =
       default-rate = n;
       probabilities = λ _. omega (arith, some, pairs-are-counted t);
       distances = λ _. some;
+      pietra-size = signed-proper (measuresOf t .pietra .numerator) some;
+      distance-sizes = λ _. some;
     }
 
 squares-proper : (l : List Outcome) → Proper (squaredDifferences l)

@@ -1,16 +1,14 @@
--- Signed numbers: differences of counts, their size and their order.
+-- Signed numbers: differences of counts, their size and their order by size.
 use Prim.Native.Nat.{ℕ, zero, suc, _+_, _-_, _<_, _≤_}
 use mathlib.Core.Path.{_≡_, refl, ap}
-use mathlib.Core.Bool.{Bool, true, false, not}
 use native.Mathlib.Omega.{arith}
-use lib.Dec.{T, T-not, ltb, ltb→lt, nltb→le, leb→le}
-use lib.IntN.{ℤ, pos, negsuc, subℕ, _-ℤ_}
+use lib.Dec.{ltb, lt→ltb, ltb→lt, nltb→le}
+use lib.IntN.{ℤ, pos, negsuc, subℕ, natAbs, _-ℤ_}
 use mir.Syntax.{w64}
 use mir.Val.{SFits}
-use lib.Signed.{mag, ltZ, leZ, _≤ℤ_, ltZ-yes, ltZ-no, <ℤ-≤ℤ-trans}
+use lib.Signed.{mag}
 use Rattle.table.proofs.Test.{by-test}
 use Rattle.cutoff.proofs.Best.{StrictOrder, ltb-order}
-use Rattle.measures.specs.Measures.{higher}
 
 -- A difference by its two signs.
 pub by-sign : (P : ℤ → Type 0) (a b : ℕ) → (a < b → P (negsuc (b - suc a))) → (b ≤ a → P (pos (a - b))) → P (subℕ a b)
@@ -26,29 +24,14 @@ mag-le {a} {b} {k} h j = by-sign (λ z. mag z ≤ k) a b (λ l. omega arith) (λ
 pub difference-fits : {a b : ℕ} → a ≤ 1_000_000_000_000 → b ≤ 1_000_000_000_000 → SFits w64 (subℕ a b)
 difference-fits h k = record { sfits = omega (arith, mag-le h k) }
 
--- Differences compare crosswise.
-pub sub-le : (a b c d : ℕ) → subℕ a b ≤ℤ subℕ c d → a + d ≤ c + b
-sub-le a b c d h =
-    by-sign (λ z. T (leZ z (subℕ c d)) → a + d ≤ c + b) a b
-    (λ l. by-sign (λ z. T (leZ (negsuc (b - suc a)) z) → a + d ≤ c + b) c d (λ k e. omega (arith, leb→le (d - suc c) (b - suc a) e)) (λ k e. omega arith))
-    (λ l. by-sign (λ z. T (leZ (pos (a - b)) z) → a + d ≤ c + b) c d (λ k e. absurd e) (λ k e. omega (arith, leb→le (a - b) (c - d) e)))
-    (h .le)
+-- The absolute size of a difference: one of the two ways round is 0.
+pub size-of : (a b : ℕ) → natAbs (subℕ a b) ≡ a - b + (b - a)
+size-of a b = by-sign (λ z. natAbs z ≡ a - b + (b - a)) a b (λ l. omega arith) (λ l. omega arith)
 
--- Larger is better.
-
-asymmetric : (x y : ℤ) → T (higher x y) → T (not (higher y x))
-asymmetric (pos a) (pos b) h = ltb-order .asymmetric b a h
-asymmetric (pos a) (negsuc b) h = tt
-asymmetric (negsuc a) (pos b) h = absurd h
-asymmetric (negsuc a) (negsuc b) h = ltb-order .asymmetric a b h
-
-unless : (b : Bool) → (T (not b) → ⊥) → T b
-unless true h = tt
-unless false h = h tt
-
-pub higher-order : StrictOrder higher
-higher-order =
+-- To have the larger size is better, whatever sizes are.
+pub larger-order : (size : ℤ → ℕ) → StrictOrder (λ x y. ltb (size y) (size x))
+larger-order size =
     record {
-      asymmetric = asymmetric;
-      beats = λ x y z h k. unless (ltZ z x) (λ l. T-not (ltZ y z) k (<ℤ-≤ℤ-trans (ltZ-yes {a = y} {b = x} h) (ltZ-no {a = z} {b = x} l) .lt));
+      asymmetric = λ x y. ltb-order .asymmetric (size y) (size x);
+      beats = λ x y z h k. lt→ltb (size z) (size x) (omega (arith, ltb→lt (size y) (size x) h, nltb→le (size y) (size z) k));
     }

@@ -11,7 +11,7 @@ use Rattle.measures.specs.declared.UnsignedFraction.{UnsignedFraction}
 use Rattle.measures.specs.Measures.{measuresOf}
 use Rattle.measures.specs.Brier.{brierAt, brierSum, brierOf}
 use Rattle.measures.proofs.Pairs.{every-pair, few-counts}
-use Rattle.measures.proofs.Pietra.{highest}
+use Rattle.measures.proofs.Pietra.{farthest}
 
 -- The Brier score.
 
@@ -59,5 +59,5 @@ few-measures {t} s =
       roc = (omega arith, omega arith);
       cap = (omega arith, omega arith);
       pietra = ds;
-      cutoff = omega (arith, highest t .within, small .grades);
+      cutoff = omega (arith, farthest t .within, small .grades);
     }

@@ -3,15 +3,15 @@
 use Prim.Native.Nat.{ℕ, _+_, _≤_, _<_}
 use mathlib.Core.Path.{_≡_}
 use mathlib.Core.Bool.{Bool, not}
+use lib.IntN.{natAbs}
 use lib.ListN.{length}
-use lib.Signed.{_<ℤ_}
 use Rattle.table.specs.Table.{Table, Every, Counted, Rated, defaultsIn, survivorsIn, obligorsIn}
 use Rattle.pooling.specs.Fraction.{Proper, AtMost, Equal, ratio, sum, difference, product}
 use Rattle.measures.specs.Pairs.{number, obligorsOf, IsListOf, Pair, pairsAmong, isConcordant, isDiscordant, isTied}
 use Rattle.measures.specs.Pairs.{concordant, discordant, tied}
-use Rattle.measures.specs.Measures.{pairs, height, pietraAt, measuresOf}
+use Rattle.measures.specs.Measures.{pairs, height, measuresOf}
 use Rattle.measures.specs.Brier.{brierOf}
-use Rattle.measures.specs.Published.{value, signedValue, rocArea, capArea, probability, verticalDistance, outcomes, meanSquaredDifference}
+use Rattle.measures.specs.Published.{value, signedValue, rocArea, capArea, probability, verticalDistance, absolute, outcomes, meanSquaredDifference}
 
 -- A table with a default and a survivor.
 pub record Mixed (t : Table) : Type 0 where
@@ -74,17 +74,19 @@ RocIsHalfOfGiniAndOne =
     (t : Table) → Mixed t
     → Equal (value (measuresOf t .roc)) (product (ratio 1 2) (sum (signedValue (measuresOf t .gini)) (ratio 1 1)))
 
--- Document 004: Pietra is the largest vertical distance over all cutoffs.
+-- Pietra is the vertical distance of document 004 at its cutoff, "signed", and no cutoff has one "of largest absolute size" beyond it, on
+-- either side of the diagonal: its absolute size is the index of document 000, definition 2.3.4.
 abbrev pub PietraIsTheLargestDistance : Type 0
 PietraIsTheLargestDistance =
     (t : Table) → Mixed t
     → (measuresOf t .cutoff ≤ length t)
     × Equal (signedValue (measuresOf t .pietra)) (verticalDistance t (measuresOf t .cutoff))
-    × ((g : ℕ) → g ≤ length t → AtMost (verticalDistance t g) (signedValue (measuresOf t .pietra)))
+    × ((g : ℕ) → g ≤ length t → AtMost (absolute (verticalDistance t g)) (absolute (signedValue (measuresOf t .pietra))))
 
--- "With the smallest such g": every smaller cutoff has a smaller y S - x D.
-abbrev pub NoSmallerCutoffIsAsHigh : Type 0
-NoSmallerCutoffIsAsHigh = (t : Table) (g : ℕ) → g < pietraAt t → height t g <ℤ measuresOf t .pietra .numerator
+-- "With the smallest such g": every smaller cutoff has a y S - x D of smaller absolute size, whatever its sign.
+abbrev pub NoSmallerCutoffIsAsFar : Type 0
+NoSmallerCutoffIsAsFar =
+    (t : Table) (g : ℕ) → g < measuresOf t .cutoff → natAbs (height t g) < natAbs (measuresOf t .pietra .numerator)
 
 -- The Brier score is the mean squared difference of outcome and announced rate, each obligor counted.
 abbrev pub BrierIsTheMeanSquaredDifference : Type 0
@@ -103,6 +105,8 @@ pub record ProperMeasures (t : Table) : Type 0 where
   pub default-rate : Proper (ratio (defaultsIn t) (obligorsIn t))
   pub probabilities : (test : Pair → Bool) → Proper (probability test t)
   pub distances : (g : ℕ) → Proper (verticalDistance t g)
+  pub pietra-size : Proper (absolute (signedValue (measuresOf t .pietra)))
+  pub distance-sizes : (g : ℕ) → Proper (absolute (verticalDistance t g))
 
 abbrev pub MeasuresAreProper : Type 0
 MeasuresAreProper = (t : Table) → Mixed t → ProperMeasures t
@@ -123,7 +127,7 @@ pub record Claims : Type 0 where
   pub gini-is-the-difference-of-probabilities : GiniIsTheDifferenceOfProbabilities
   pub roc-is-half-of-gini-and-one : RocIsHalfOfGiniAndOne
   pub pietra-is-the-largest-distance : PietraIsTheLargestDistance
-  pub no-smaller-cutoff-is-as-high : NoSmallerCutoffIsAsHigh
+  pub no-smaller-cutoff-is-as-far : NoSmallerCutoffIsAsFar
   pub brier-is-the-mean-squared-difference : BrierIsTheMeanSquaredDifference
   pub measures-are-proper : MeasuresAreProper
   pub brier-is-proper : BrierIsProper

@@ -1,9 +1,10 @@
--- The measures of a scale, as document 01's "Measures and squared scores" writes them: numerators and denominators, not reduced.
+-- The measures of a scale, as document 01's "Measures and squared scores" writes them, Pietra as document 02's R-1 does: numerators and
+-- denominators, not reduced.
 use Prim.Native.Nat.{ℕ, _+_, _-_, _*_}
 use mathlib.Core.Bool.{Bool}
-use lib.IntN.{ℤ, subℕ}
+use lib.Dec.{ltb}
+use lib.IntN.{ℤ, subℕ, natAbs}
 use lib.ListN.{length}
-use lib.Signed.{ltZ}
 use Rattle.table.specs.Table.{Table, defaultsIn, survivorsIn, obligorsIn}
 use Rattle.cutoff.specs.Best.{best}
 use Rattle.cutoff.specs.Cutoff.{caught, lost}
@@ -14,17 +15,18 @@ use Rattle.measures.specs.declared.Measures.{Measures}
 abbrev pub pairs : Table → ℕ
 pairs t = defaultsIn t * survivorsIn t
 
--- y S - x D at cutoff g, signed
+-- y S - x D at cutoff g, signed: where the ROC curve stands above the diagonal, or, negative, below it
 abbrev pub height : Table → ℕ → ℤ
 height t g = subℕ (caught t g * survivorsIn t) (lost t g * defaultsIn t)
 
--- The Pietra rule: x is better than y if it is larger.
-abbrev pub higher : ℤ → ℤ → Bool
-higher x y = ltZ y x
+-- The Pietra rule: x is farther from the diagonal than y if its absolute size is larger.
+abbrev pub farther : ℤ → ℤ → Bool
+farther x y = ltb (natAbs y) (natAbs x)
 
--- the smallest cutoff with the largest y S - x D
+-- "The y S - x D of largest absolute size, signed, with the smallest such g; of two equal sizes at different g the smaller g also decides
+-- the sign."
 abbrev pub pietraAt : Table → ℕ
-pietraAt t = best higher (height t) (length t)
+pietraAt t = best farther (height t) (length t)
 
 unfoldable pub measuresOf : Table → Measures
 measuresOf t = record {

@@ -4,7 +4,7 @@ use Rattle.table.specs.Table.{Table, defaultsIn, survivorsIn}
 use Rattle.measures.specs.Pairs.{concordant, discordant}
 use Rattle.measures.specs.Measures.{height, pietraAt}
 use Rattle.measures.specs.declared.PairCounts.{PairCounts}
-use Rattle.measures.specs.declared.HighestCutoff.{HighestCutoff}
+use Rattle.measures.specs.declared.FarthestCutoff.{FarthestCutoff}
 
 -- C, X, D and S
 unfoldable pub pairCountsOf : Table → PairCounts
@@ -16,5 +16,5 @@ pairCountsOf t = record {
 }
 
 -- the Pietra cutoff and its y S - x D
-unfoldable pub highestOf : Table → HighestCutoff
-highestOf t = record { cutoff = pietraAt t; height = height t (pietraAt t) }
+unfoldable pub farthestOf : Table → FarthestCutoff
+farthestOf t = record { cutoff = pietraAt t; height = height t (pietraAt t) }

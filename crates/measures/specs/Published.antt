@@ -2,7 +2,7 @@
 use Prim.Native.Nat.{ℕ, zero, suc, _+_}
 use mathlib.Core.Bool.{Bool}
 use mathlib.Core.List.{List, [], _∷_, _++_}
-use lib.IntN.{ℤ, pos, negsuc}
+use lib.IntN.{ℤ, pos, negsuc, subℕ, natAbs}
 use lib.ListN.{length, replicate}
 use Rattle.table.specs.Table.{Table, survivors, defaultsIn, survivorsIn, obligorsIn}
 use Rattle.pooling.specs.Fraction.{Fraction, nought, ratio, sum, difference, square, product}
@@ -52,9 +52,13 @@ capArea t = areaUnder (obligorShare t) (defaultShare t) (length t)
 abbrev pub probability : (Pair → Bool) → Table → Fraction
 probability test t = ratio (number test (pairsAmong (obligorsOf t))) (length (pairsAmong (obligorsOf t)))
 
--- Document 004: the vertical distance of the two shares at cutoff g.
+-- Document 004: the vertical distance of the two shares at cutoff g, negative where the curve is below the diagonal.
 abbrev pub verticalDistance : Table → ℕ → Fraction
 verticalDistance t g = difference (defaultShare t g) (survivorShare t g)
+
+-- The absolute size of a fraction. Document 000, definition 2.3.4: the Pietra index is the largest of the two shares' difference.
+unfoldable pub absolute : Fraction → Fraction
+absolute x = ratio (natAbs (subℕ (x .plus) (x .minus))) (x .over)
 
 -- The Brier score: each obligor's outcome, 1 for a default, against the rate announced for its grade.
 pub record Outcome : Type 0 where

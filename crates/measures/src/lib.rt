@@ -1,11 +1,11 @@
 // The measures of a rating scale: Gini, the curve areas, Pietra, and the Brier score of the announced rates.
 ghost use Prim.Native.Nat.{_*_, _≤_};
 ghost use mathlib.Core.Path.{_≡_};
-ghost use lib.IntN.{subℕ};
+ghost use lib.IntN.{subℕ, natAbs};
 ghost use Rattle.table.specs.Table.{defaultsIn, survivorsIn};
 ghost use Rattle.table.specs.Words.{tableIn, HoldsTable};
 ghost use Rattle.measures.specs.Measures.{measuresOf};
-ghost use Rattle.measures.specs.Private.{pairCountsOf, highestOf};
+ghost use Rattle.measures.specs.Private.{pairCountsOf, farthestOf};
 ghost use Rattle.measures.specs.Brier.{brierOf};
 ghost use Rattle.measures.specs.Claims.{Claims};
 use table::ANNOUNCED;
@@ -45,8 +45,8 @@ struct PairCounts {
     survivors: Survivors,
 }
 
-// The cutoff with the largest y S - x D, the smallest of equals, and that height.
-struct HighestCutoff {
+// The cutoff whose y S - x D has the largest absolute size, the smallest of equals, and that height, signed.
+struct FarthestCutoff {
     cutoff: u32,
     height: i64,
 }
@@ -62,6 +62,13 @@ fn difference(a: u64, b: u64) -> i64
     ensures { λ r. ⌜ r ≡ subℕ a b ⌝ }
 {
     (a as i64) - (b as i64)
+}
+
+// How far two numbers are apart, whichever is larger.
+fn apart(a: u64, b: u64) -> u64
+    ensures { λ r. ⌜ r ≡ natAbs (subℕ a b) ⌝ }
+{
+    if a < b { b - a } else { a - b }
 }
 
 // From the worst grade to the best: each grade's survivors with the defaults in worse grades, and its defaults with the survivors there.
@@ -92,11 +99,11 @@ fn count_pairs(place: &[u32]) -> PairCounts
 }
 
 // Cutoff by cutoff from none turned away, of which the height is 0, to all. `defaulted` and `survivors` are the table's.
-fn highest(place: &[u32], defaulted: u32, survivors: Survivors) -> HighestCutoff
+fn farthest(place: &[u32], defaulted: u32, survivors: Survivors) -> FarthestCutoff
     requires { ⌜ HoldsTable (now place) ⌝ }
     requires all_defaults { ⌜ defaulted ≡ defaultsIn (tableIn (now place)) ⌝ }
     requires all_survivors { ⌜ survivors .0 ≡ survivorsIn (tableIn (now place)) ⌝ }
-    ensures { λ r. ⌜ r ≡ highestOf (tableIn (now (place .entry))) ⌝ }
+    ensures { λ r. ⌜ r ≡ farthestOf (tableIn (now (place .entry))) ⌝ }
 {
     let grades = grades_of(place);
     let mut i = grades;
@@ -104,18 +111,22 @@ fn highest(place: &[u32], defaulted: u32, survivors: Survivors) -> HighestCutoff
     let mut lost = Survivors(0);
     let mut cutoff: u32 = 0;
     let mut height: i64 = 0;
+    let mut distance: u64 = 0;
     while 0 < i {
         i -= 1;
         let d = place[DEFAULTS + i];
         caught += d;
         lost = lost.plus(Obligors(place[i]).survivors(d));
-        let here = difference(product(caught, survivors.0), product(lost.0, defaulted));
-        if height < here {
-            height = here;
+        let curve = product(caught, survivors.0);
+        let diagonal = product(lost.0, defaulted);
+        let here = apart(curve, diagonal);
+        if distance < here {
+            distance = here;
+            height = difference(curve, diagonal);
             cutoff = (grades - i) as u32;
         }
     }
-    HighestCutoff { cutoff, height }
+    FarthestCutoff { cutoff, height }
 }
 
 // The measures of the table in a lent place. Without a default or a survivor a denominator is 0.
@@ -126,7 +137,7 @@ pub fn measure(place: &[u32]) -> Measures
     let counts = count_pairs(place);
     let defaulted = counts.defaults;
     let survivors = counts.survivors;
-    let top = highest(place, defaulted, survivors);
+    let top = farthest(place, defaulted, survivors);
     let pairs = product(defaulted, survivors.0);
     let profile = product(defaulted, survivors.with_defaults(defaulted).0);
     Measures {

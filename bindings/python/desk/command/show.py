@@ -18,6 +18,7 @@ CURVES = (('Gini', 'gini'), ('ROC area', 'roc'), ('CAP area', 'cap'), ('Pietra',
 ABOUT_BANDS = ('Grades with one pooled rate form a block. Band b has the pooled rates of at most 100 times 2^b ppm (0.01% times 2^b) '
                'that no lower band has;\nband 14 has those above 81.92%.')
 ABOUT_MEASURES = 'Higher is better; of Brier, which scores the announced rates, lower.'
+ABOUT_SIGN = 'A negative Pietra: the ROC curve is farthest from the diagonal below it, as on a scale that is upside down.'
 
 
 class Measured(NamedTuple):
@@ -54,7 +55,8 @@ def measures_table(measures: Sequence[Measured], names: Sequence[str]) -> list[s
         return [str(getattr(each.measures, name)) if each.measures else f'refused {each.refusals[0].number}' for each in measures]
     rows = [(label, *cells(name)) for label, name in CURVES]
     rows += [('  at cutoff', *cells('cutoff')), ('Brier', *(str(each.brier) for each in measures))]
-    return columns([('', *names), *rows]) + [ABOUT_MEASURES]
+    below = any(each.measures and each.measures.pietra < 0 for each in measures)
+    return columns([('', *names), *rows]) + [ABOUT_MEASURES] + [ABOUT_SIGN] * below
 
 
 # One rater

@@ -1,4 +1,4 @@
--- `measure` meets its contract: the four measures out of the pairs counted and the highest cutoff.
+-- `measure` meets its contract: the four measures out of the pairs counted and the farthest cutoff.
 use Prim.Native.Nat.{ℕ, _+_, _-_, _*_, _≤_}
 use mathlib.Core.Path.{_≡_, ap, _∙_}
 use native.Mathlib.Nat.{mul-le-mul-left}
@@ -16,10 +16,10 @@ use Rattle.table.specs.Counts.{capped}
 use Rattle.table.proofs.Arithmetic.{counts-le}
 use Rattle.table.proofs.Suffix.{Small, sound-small}
 use Rattle.measures.specs.declared.PairCounts.{PairCounts}
-use Rattle.measures.specs.declared.HighestCutoff.{HighestCutoff}
+use Rattle.measures.specs.declared.FarthestCutoff.{FarthestCutoff}
 use Rattle.measures.specs.Pairs.{concordant, discordant, tied}
 use Rattle.measures.specs.Measures.{pairs, measuresOf}
-use Rattle.measures.specs.Private.{pairCountsOf, highestOf}
+use Rattle.measures.specs.Private.{pairCountsOf, farthestOf}
 use Rattle.measures.proofs.Pairs.{every-pair, few-counts, few-pairs}
 use Rattle.measures.proofs.Signed.{difference-fits}
 use Rattle.measures.proofs.measure.Statement.{statement}
@@ -63,8 +63,8 @@ totals : (t : Table) {m : PairCounts} → m ≡ pairCountsOf t → (m .defaults 
 unfolding pairCountsOf
 totals t e = (ap (λ m. m .defaults) e, ap (λ m. m .survivors .0) e)
 
-highest-requires : tie.Need-highest-requires
-highest-requires c κs =
+farthest-requires : tie.Need-farthest-requires
+farthest-requires c κs =
     let b = c .before .before .before in
     (b .pre, totals (tableIn (now (b .args .place))) (c .before .count-pairs .ensures))
 
@@ -77,7 +77,7 @@ at c =
     (c .before .before .before .before .before .count-pairs .ensures)
     (c .before .with-defaults .ensures) (c .before .before .product .ensures) (c .product2 .ensures)
 
-measures-are : {t : Table} {m : PairCounts} {a b : ℕ} → Known t m a b → (h : HighestCutoff) → h ≡ highestOf t
+measures-are : {t : Table} {m : PairCounts} {a b : ℕ} → Known t m a b → (h : FarthestCutoff) → h ≡ farthestOf t
     → (z w : ℤ) → z ≡ subℕ (m .concordant) (m .discordant) → w ≡ h .height
     → record {
       defaults = m .defaults;
@@ -88,7 +88,7 @@ measures-are : {t : Table} {m : PairCounts} {a b : ℕ} → Known t m a b → (h
       pietra = record { numerator = w; denominator = a };
       cutoff = h .cutoff;
     } ≡ measuresOf t
-unfolding measuresOf pairCountsOf highestOf
+unfolding measuresOf pairCountsOf farthestOf
 measures-are {t} k h e z w ofZ ofW =
     let roc : pairs t + concordant t - discordant t ≡ 2 * concordant t + tied t = omega arith in
     rw (ofW, ofZ, e, k .counts, k .of-a, k .of-b, roc)
@@ -96,7 +96,7 @@ measures-are {t} k h e z w ofZ ofW =
 returns : tie.Need-returns
 returns c =
     let d = c .before .before .before .before .before in
-    let top = d .before .before .before .before .highest in
+    let top = d .before .before .before .before .farthest in
     let k = at (d .before) in
     let z : SFits w64 (d .difference .result) = rw (d .difference .ensures) (difference-fits (k .few-concordant) (k .few-discordant)) in
     let w : SFits w64 (top .result .height) = record { sfits = c .struct-told .given .1 .0 .1 } in
@@ -107,7 +107,7 @@ measure-spec =
     tie.close
     (tie.spec
     (λ c κs. search needs)
-    highest-requires
+    farthest-requires
     (λ c κs. search needs)
     (λ c κs. search needs)
     (λ c κs. search needs)

@@ -1,15 +1,15 @@
--- `highest` meets its contract. The invariant: at grade i the cutoffs that turn away no better grade have been tried.
+-- `farthest` meets its contract. The invariant: at grade i the cutoffs that turn away no better grade have been tried.
 use Prim.Native.Nat.{ℕ, suc, _+_, _-_, _*_, _≤_, _<_}
-use mathlib.Core.Path.{_≡_, _∙_}
-use mathlib.Core.Bool.{Bool, true, false, cond}
+use mathlib.Core.Path.{_≡_, ap, _∙_}
+use mathlib.Core.Bool.{true, false}
 use mathlib.Core.List.{List}
 use native.Mathlib.Nat.{sub-self, zero-mul}
 use native.Mathlib.Omega.{arith}
 use borrow.Author.Needs.{needs}
+use borrow.Author.Tests.{lt-ltb, le-ltb}
 use denote.Ref.{now}
 use lib.ListN.{length, getD}
-use lib.IntN.{ℤ, pos, subℕ}
-use lib.Signed.{ltZ}
+use lib.IntN.{ℤ, pos, subℕ, natAbs}
 use mir.Syntax.{w64}
 use mir.Val.{toZ, ofZ}
 use mir.ValLaws.{toZ-ofZ}
@@ -22,21 +22,26 @@ use Rattle.table.proofs.Arithmetic.{counts-le}
 use Rattle.table.proofs.Suffix.{suffix, suffix-end, length-grades, small, sound-small}
 use Rattle.table.proofs.Words.{Turn, turn}
 use Rattle.cutoff.specs.Best.{best}
-use Rattle.measures.specs.Measures.{height, higher}
-use Rattle.measures.specs.Private.{highestOf}
+use Rattle.measures.specs.Measures.{height, farther}
+use Rattle.measures.specs.Private.{farthestOf}
 use Rattle.measures.proofs.Pairs.{few-counts}
 use Rattle.measures.proofs.Cutoffs.{turned-none, turned-suffix}
 use Rattle.measures.proofs.Signed.{difference-fits}
-use Rattle.measures.proofs.highest.Statement.{statement}
-use Rattle.measures.proofs.highest.Tie as tie
+use Rattle.measures.proofs.farthest.Statement.{statement}
+use Rattle.measures.proofs.farthest.Tie as tie
 
--- h is a height in 64 bits, which `toZ` reads.
-record Tried (p : Place) (i y : ℕ) (x : Survivors) (g h : ℕ) : Type 0 where
+-- the best of the cutoffs that turn away grade i and worse ones at most
+abbrev bestFrom : Place → ℕ → ℕ
+bestFrom p i = best farther (height (tableOf p)) (p .grades - i)
+
+-- h is a height in 64 bits, which `toZ` reads, and a its absolute size.
+record Tried (p : Place) (i y : ℕ) (x : Survivors) (g h a : ℕ) : Type 0 where
   pub inside : i ≤ p .grades
   pub caught : y ≡ defaultsIn (suffix p i)
   pub lost : x .0 ≡ survivorsIn (suffix p i)
-  pub cutoff : g ≡ best higher (height (tableOf p)) (p .grades - i)
-  pub high : toZ w64 h ≡ height (tableOf p) (best higher (height (tableOf p)) (p .grades - i))
+  pub cutoff : g ≡ bestFrom p i
+  pub high : toZ w64 h ≡ height (tableOf p) (bestFrom p i)
+  pub far : a ≡ natAbs (height (tableOf p) (bestFrom p i))
 
 -- What a turn knows of the cutoff that it tries: a is y S and b is x D.
 record Next (p : Place) (i y : ℕ) (x : Survivors) (a b : ℕ) : Type 0 where
@@ -48,13 +53,13 @@ record Next (p : Place) (i y : ℕ) (x : Survivors) (a b : ℕ) : Type 0 where
   pub small-b : b ≤ 1_000_000_000_000
   pub here : subℕ a b ≡ height (tableOf p) (p .grades - (i - 1))
 
-next : {w : List ℕ} {i y g h d n a b : ℕ} {x x′ s : Survivors} →
+next : {w : List ℕ} {i y g h far d n a b : ℕ} {x x′ s : Survivors} →
     let p = placeIn w in
-    Sound (tableOf p) → (d ≡ defaultsIn (tableOf p)) × (s .0 ≡ survivorsIn (tableOf p)) → 0 < i → Turn w i → Tried p i y x g h
+    Sound (tableOf p) → (d ≡ defaultsIn (tableOf p)) × (s .0 ≡ survivorsIn (tableOf p)) → 0 < i → Turn w i → Tried p i y x g h far
     → n ≡ survivors (gradeAt p (i - 1)) → x′ .0 ≡ x .0 + n → a ≡ (y + getD w (40 + (i - 1)) 0) * s .0 → b ≡ x′ .0 * d
     → Next p i (y + getD w (40 + (i - 1)) 0) x′ a b
 unfolding defaultsIn survivorsIn
-next {w} {i} {y} {g} {h} {d} {n} {a} {b} {x} {x′} {s} sound totals up f kept ofN ofX ofA ofB =
+next {w} {i} {y} {g} {h} {far} {d} {n} {a} {b} {x} {x′} {s} sound totals up f kept ofN ofX ofA ofB =
     let p = placeIn w in
     let inside : i - 1 ≤ p .grades = omega (arith, kept .inside) in
     let caught : y + getD w (40 + (i - 1)) 0 ≡ defaultsIn (suffix p (i - 1)) = rw (f .down) (omega (arith, kept .caught)) in
@@ -74,35 +79,40 @@ next {w} {i} {y} {g} {h} {d} {n} {a} {b} {x} {x′} {s} sound totals up f kept o
     }
 
 -- The cutoff tried is the best so far, or the one kept is.
-best-suc : (f : ℕ → ℤ) (k k′ : ℕ) (kept here : ℤ) (b : Bool) → k′ ≡ suc k → kept ≡ f (best higher f k) → here ≡ f k′ → ltZ kept here ≡ b
-    → best higher f k′ ≡ cond b k′ (best higher f k)
-unfolding best
-best-suc f k k′ kept here b s p q e = rw (s, ← p, ← rw s at q, e)
+module _ (f : ℕ → ℤ) {k k′ kept here : ℕ} (s : k′ ≡ suc k) (p : kept ≡ natAbs (f (best farther f k))) (q : here ≡ natAbs (f k′)) where
+  best-new : kept < here → best farther f k′ ≡ k′
+  unfolding best
+  best-new h = rw (s, ← p, ← rw s at q, lt-ltb kept here h)
 
-module _ {p : Place} {i y y₀ a b g h : ℕ} {x x₀ : Survivors} {z : ℤ}
-    (n : Next p i y x a b) (t : Tried p i y₀ x₀ g h) (e : z ≡ subℕ a b) where
-  here : toZ w64 (ofZ w64 z) ≡ height (tableOf p) (p .grades - (i - 1))
-  here = toZ-ofZ w64 z (rw e (difference-fits (n .small-a) (n .small-b))) ∙ e ∙ n .here
+  best-kept : here ≤ kept → best farther f k′ ≡ best farther f k
+  unfolding best
+  best-kept h = rw (s, ← p, ← rw s at q, le-ltb kept here h)
 
-  taken : ltZ (toZ w64 h) (toZ w64 (ofZ w64 z)) ≡ true → Tried p (i - 1) y x (p .grades - (i - 1)) (ofZ w64 z)
-  taken test =
-      let it = best-suc (height (tableOf p)) _ _ _ _ true (n .number) (t .high) here test in
-      record { inside = n .inside; caught = n .caught; lost = n .lost; cutoff = rw it; high = rw it here }
+module _ {p : Place} {i y y₀ a b g h far here : ℕ} {x x₀ : Survivors}
+    (n : Next p i y x a b) (t : Tried p i y₀ x₀ g h far) (e : here ≡ natAbs (subℕ a b)) where
+  size : here ≡ natAbs (height (tableOf p) (p .grades - (i - 1)))
+  size = rw (← n .here) e
 
-  left : ltZ (toZ w64 h) (toZ w64 (ofZ w64 z)) ≡ false → Tried p (i - 1) y x g h
+  taken : far < here → (z : ℤ) → z ≡ subℕ a b → Tried p (i - 1) y x (p .grades - (i - 1)) (ofZ w64 z) here
+  taken test z is =
+      let it = best-new (height (tableOf p)) (n .number) (t .far) size test in
+      let signed = toZ-ofZ w64 z (rw is (difference-fits (n .small-a) (n .small-b))) ∙ is ∙ n .here in
+      record { inside = n .inside; caught = n .caught; lost = n .lost; cutoff = rw it; high = rw it signed; far = rw it size }
+
+  left : here ≤ far → Tried p (i - 1) y x g h far
   left test =
-      let it = best-suc (height (tableOf p)) _ _ _ _ false (n .number) (t .high) here test in
-      record { inside = n .inside; caught = n .caught; lost = n .lost; cutoff = rw it (t .cutoff); high = rw it (t .high) }
+      let it = best-kept (height (tableOf p)) (n .number) (t .far) size test in
+      record { inside = n .inside; caught = n .caught; lost = n .lost; cutoff = rw it (t .cutoff); high = rw it (t .high); far = rw it (t .far) }
 
 none : (t : Table) → pos 0 ≡ height t 0
 unfolding defaultsIn survivorsIn
 none t = rw (turned-none t, zero-mul (survivorsIn t), zero-mul (defaultsIn t))
 
 abbrev Inv-loop : tie.InvT-loop
-Inv-loop place d s grades i₀ y₀ x₀ g₀ h₀ i y x g h = Tried (placeIn place) i y x g h
+Inv-loop place d s grades i₀ y₀ x₀ g₀ h₀ far₀ i y x g h far = Tried (placeIn place) i y x g h far
 
 abbrev μ-loop : tie.MeasureT-loop
-μ-loop place d s grades i₀ y₀ x₀ g₀ h₀ i y x g h = i
+μ-loop place d s grades i₀ y₀ x₀ g₀ h₀ far₀ i y x g h far = i
 
 loop-holds : tie.Need-loop-holds Inv-loop μ-loop
 unfolding defaultsIn survivorsIn best
@@ -110,7 +120,14 @@ loop-holds c =
     let p = placeIn (now (c .before .before .args .place)) in
     let end = suffix-end p (p .grades) (omega arith) in
     rw (c .grades-of .ensures)
-    (record { inside = omega arith; caught = rw end; lost = rw end; cutoff = rw sub-self; high = rw sub-self (none (tableOf p)) })
+    (record {
+      inside = omega arith;
+      caught = rw end;
+      lost = rw end;
+      cutoff = rw sub-self;
+      high = rw sub-self (none (tableOf p));
+      far = rw sub-self (ap natAbs (none (tableOf p)));
+    })
 
 at : (c : tie.In-loop Inv-loop μ-loop) → Turn (now (c .before .before .before .before .args .place)) (c .before .loop .i)
 at c = turn _ _ (c .before .before .before .before .pre .0) (c .loop-test .taken) (c .before .loop .inv .inside)
@@ -137,29 +154,33 @@ reached c =
     (omega (arith, c .before .before .before .survivors .ensures)) (c .before .before .plus .ensures) (c .before .product .ensures) (c .product2 .ensures)
 
 difference-requires : tie.Need-difference-requires Inv-loop μ-loop
-difference-requires c κs = let n = reached c in (n .small-a, n .small-b)
+difference-requires c κs = let n = reached (c .before .before) in (n .small-a, n .small-b)
 
 loop-again : tie.Need-loop-again Inv-loop μ-loop
 loop-again c =
-    let l = c .before .before .before .before .before .before .before .before .before in
-    rw (l .before .grades-of .ensures) (taken (reached (c .before .before)) (l .loop .inv) (c .before .difference .ensures) (c .if1 .taken))
+    let a = c .before .before in
+    let l = a .before .before .before .before .before .before .before .before in
+    rw (l .before .grades-of .ensures)
+    (taken (reached (a .before)) (l .loop .inv) (a .apart .ensures) (c .before .if1 .taken) (c .difference .result) (c .difference .ensures))
 
 loop-again-2 : tie.Need-loop-again-2 Inv-loop μ-loop
 loop-again-2 c =
-    left (reached (c .before .before)) (c .before .before .before .before .before .before .before .before .before .loop .inv)
-    (c .before .difference .ensures) (c .if1 .left)
+    let a = c .before in
+    let l = a .before .before .before .before .before .before .before .before in
+    left (reached (a .before)) (l .loop .inv) (a .apart .ensures) (c .if1 .left)
 
-highest-is : (p : Place) (i y g h : ℕ) (x : Survivors) → i ≡ 0 → Tried p i y x g h → record { cutoff = g; height = toZ w64 h } ≡ highestOf (tableOf p)
-unfolding highestOf
-highest-is p i y g h x e t =
+farthest-is : (p : Place) (i y g h far : ℕ) (x : Survivors) → i ≡ 0 → Tried p i y x g h far
+    → record { cutoff = g; height = toZ w64 h } ≡ farthestOf (tableOf p)
+unfolding farthestOf
+farthest-is p i y g h far x e t =
     let all : length (tableOf p) ≡ p .grades - i = omega (arith, length-grades p 0 (p .grades)) in
     rw (all, ← t .high, ← t .cutoff)
 
 returns : tie.Need-returns Inv-loop μ-loop
-returns c = highest-is _ _ _ _ _ _ (omega arith) (c .before .loop .inv)
+returns c = farthest-is _ _ _ _ _ _ _ (omega arith) (c .before .loop .inv)
 
-pub highest-spec : {M : Type 1} → statement M
-highest-spec =
+pub farthest-spec : {M : Type 1} → statement M
+farthest-spec =
     tie.close
     (tie.spec
     Inv-loop
@@ -177,9 +198,10 @@ highest-spec =
     plus-requires
     (λ c κs. search needs)
     (λ c κs. search needs)
+    (λ c κs. search needs)
     difference-requires
     (λ c. omega arith)
-    (λ c. let f = at (c .before .before .before .before .before .before .before .before) in omega arith)
+    (λ c. let f = at (c .before .before .before .before .before .before .before .before .before) in omega arith)
     (λ c. search needs)
     loop-again
     (λ c. search needs)

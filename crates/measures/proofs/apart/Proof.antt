@@ -1,0 +1,14 @@
+-- `apart` meets its contract.
+use native.Mathlib.Omega.{arith}
+use borrow.Author.Needs.{needs}
+use Rattle.measures.proofs.Signed.{size-of}
+use Rattle.measures.proofs.apart.Statement.{statement}
+use Rattle.measures.proofs.apart.Tie as tie
+
+pub apart-spec : {M : Type 1} → statement M
+apart-spec =
+    tie.close
+    (tie.spec
+    (λ c. search needs)
+    (λ c. omega (arith, size-of (c .before .args .a) (c .before .args .b)))
+    (λ c. omega (arith, size-of (c .before .args .a) (c .before .args .b))))
