@@ -42,8 +42,8 @@ pietra-is-largest t mixed =
       farthest t .within,
       equal (pietra-over t) (distance-over t (pietraAt t)) some (omega arith),
       λ g l.
-      at-most (over-absolute (distance-over t g)) (over-absolute (pietra-over t)) some
-      (omega (arith, nltb→le (natAbs (height t (pietraAt t))) (natAbs (height t g)) (farthest t .none-better g l))),
+          at-most (over-absolute (distance-over t g)) (over-absolute (pietra-over t)) some
+          (omega (arith, nltb→le (natAbs (height t (pietraAt t))) (natAbs (height t g)) (farthest t .none-better g l))),
     )
 
 pub smaller-is-nearer : (t : Table) (g : ℕ) → g < measuresOf t .cutoff → natAbs (height t g) < natAbs (measuresOf t .pietra .numerator)

@@ -28,7 +28,7 @@ difference-fits h k = record { sfits = omega (arith, mag-le h k) }
 pub size-of : (a b : ℕ) → natAbs (subℕ a b) ≡ a - b + (b - a)
 size-of a b = by-sign (λ z. natAbs z ≡ a - b + (b - a)) a b (λ l. omega arith) (λ l. omega arith)
 
--- To have the larger size is better, whatever sizes are.
+-- By size: what has the larger one is better, whatever sizes are.
 pub larger-order : (size : ℤ → ℕ) → StrictOrder (λ x y. ltb (size y) (size x))
 larger-order size =
     record {

@@ -74,8 +74,8 @@ RocIsHalfOfGiniAndOne =
     (t : Table) → Mixed t
     → Equal (value (measuresOf t .roc)) (product (ratio 1 2) (sum (signedValue (measuresOf t .gini)) (ratio 1 1)))
 
--- Pietra is the vertical distance of document 004 at its cutoff, "signed", and no cutoff has one "of largest absolute size" beyond it, on
--- either side of the diagonal: its absolute size is the index of document 000, definition 2.3.4.
+-- Document 02, R-1: Pietra is "of largest absolute size, signed". It is the vertical distance of document 004 at its cutoff, and no cutoff has
+-- one of larger absolute size, on either side of the diagonal: that size is the index of document 000, definition 2.3.4.
 abbrev pub PietraIsTheLargestDistance : Type 0
 PietraIsTheLargestDistance =
     (t : Table) → Mixed t
@@ -83,7 +83,7 @@ PietraIsTheLargestDistance =
     × Equal (signedValue (measuresOf t .pietra)) (verticalDistance t (measuresOf t .cutoff))
     × ((g : ℕ) → g ≤ length t → AtMost (absolute (verticalDistance t g)) (absolute (signedValue (measuresOf t .pietra))))
 
--- "With the smallest such g": every smaller cutoff has a y S - x D of smaller absolute size, whatever its sign.
+-- "With the smallest such g", which "also decides the sign": every smaller cutoff has a y S - x D of smaller absolute size.
 abbrev pub NoSmallerCutoffIsAsFar : Type 0
 NoSmallerCutoffIsAsFar =
     (t : Table) (g : ℕ) → g < measuresOf t .cutoff → natAbs (height t g) < natAbs (measuresOf t .pietra .numerator)

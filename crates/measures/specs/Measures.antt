@@ -15,11 +15,11 @@ use Rattle.measures.specs.declared.Measures.{Measures}
 abbrev pub pairs : Table → ℕ
 pairs t = defaultsIn t * survivorsIn t
 
--- y S - x D at cutoff g, signed: where the ROC curve stands above the diagonal, or, negative, below it
+-- y S - x D at cutoff g, signed
 abbrev pub height : Table → ℕ → ℤ
 height t g = subℕ (caught t g * survivorsIn t) (lost t g * defaultsIn t)
 
--- The Pietra rule: x is farther from the diagonal than y if its absolute size is larger.
+-- The Pietra rule. A height is that of the ROC curve above its diagonal, times D S: x is farther from it than y if its absolute size is larger.
 abbrev pub farther : ℤ → ℤ → Bool
 farther x y = ltb (natAbs y) (natAbs x)
 

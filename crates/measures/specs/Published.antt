@@ -52,11 +52,11 @@ capArea t = areaUnder (obligorShare t) (defaultShare t) (length t)
 abbrev pub probability : (Pair → Bool) → Table → Fraction
 probability test t = ratio (number test (pairsAmong (obligorsOf t))) (length (pairsAmong (obligorsOf t)))
 
--- Document 004: the vertical distance of the two shares at cutoff g, negative where the curve is below the diagonal.
+-- Document 004: the vertical distance of the two shares at cutoff g.
 abbrev pub verticalDistance : Table → ℕ → Fraction
 verticalDistance t g = difference (defaultShare t g) (survivorShare t g)
 
--- The absolute size of a fraction. Document 000, definition 2.3.4: the Pietra index is the largest of the two shares' difference.
+-- The absolute size of a fraction. Document 000, definition 2.3.4: the Pietra index is the largest one of the difference of the two shares.
 unfoldable pub absolute : Fraction → Fraction
 absolute x = ratio (natAbs (subℕ (x .plus) (x .minus))) (x .over)
 

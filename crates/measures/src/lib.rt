@@ -117,6 +117,7 @@ fn farthest(place: &[u32], defaulted: u32, survivors: Survivors) -> FarthestCuto
         let d = place[DEFAULTS + i];
         caught += d;
         lost = lost.plus(Obligors(place[i]).survivors(d));
+        // The ROC curve and the diagonal at this cutoff, times D S.
         let curve = product(caught, survivors.0);
         let diagonal = product(lost.0, defaulted);
         let here = apart(curve, diagonal);

@@ -1,7 +1,6 @@
 -- `farthest` meets its contract. The invariant: at grade i the cutoffs that turn away no better grade have been tried.
 use Prim.Native.Nat.{ℕ, suc, _+_, _-_, _*_, _≤_, _<_}
 use mathlib.Core.Path.{_≡_, ap, _∙_}
-use mathlib.Core.Bool.{true, false}
 use mathlib.Core.List.{List}
 use native.Mathlib.Nat.{sub-self, zero-mul}
 use native.Mathlib.Omega.{arith}
@@ -30,18 +29,18 @@ use Rattle.measures.proofs.Signed.{difference-fits}
 use Rattle.measures.proofs.farthest.Statement.{statement}
 use Rattle.measures.proofs.farthest.Tie as tie
 
--- the best of the cutoffs that turn away grade i and worse ones at most
+-- the best of the cutoffs that turn away no better grade than i
 abbrev bestFrom : Place → ℕ → ℕ
 bestFrom p i = best farther (height (tableOf p)) (p .grades - i)
 
--- h is a height in 64 bits, which `toZ` reads, and a its absolute size.
-record Tried (p : Place) (i y : ℕ) (x : Survivors) (g h a : ℕ) : Type 0 where
+-- h is a height in 64 bits, which `toZ` reads, and far its absolute size.
+record Tried (p : Place) (i y : ℕ) (x : Survivors) (g h far : ℕ) : Type 0 where
   pub inside : i ≤ p .grades
   pub caught : y ≡ defaultsIn (suffix p i)
   pub lost : x .0 ≡ survivorsIn (suffix p i)
   pub cutoff : g ≡ bestFrom p i
   pub high : toZ w64 h ≡ height (tableOf p) (bestFrom p i)
-  pub far : a ≡ natAbs (height (tableOf p) (bestFrom p i))
+  pub distance : far ≡ natAbs (height (tableOf p) (bestFrom p i))
 
 -- What a turn knows of the cutoff that it tries: a is y S and b is x D.
 record Next (p : Place) (i y : ℕ) (x : Survivors) (a b : ℕ) : Type 0 where
@@ -95,14 +94,14 @@ module _ {p : Place} {i y y₀ a b g h far here : ℕ} {x x₀ : Survivors}
 
   taken : far < here → (z : ℤ) → z ≡ subℕ a b → Tried p (i - 1) y x (p .grades - (i - 1)) (ofZ w64 z) here
   taken test z is =
-      let it = best-new (height (tableOf p)) (n .number) (t .far) size test in
+      let it = best-new (height (tableOf p)) (n .number) (t .distance) size test in
       let signed = toZ-ofZ w64 z (rw is (difference-fits (n .small-a) (n .small-b))) ∙ is ∙ n .here in
-      record { inside = n .inside; caught = n .caught; lost = n .lost; cutoff = rw it; high = rw it signed; far = rw it size }
+      record { inside = n .inside; caught = n .caught; lost = n .lost; cutoff = rw it; high = rw it signed; distance = rw it size }
 
   left : here ≤ far → Tried p (i - 1) y x g h far
   left test =
-      let it = best-kept (height (tableOf p)) (n .number) (t .far) size test in
-      record { inside = n .inside; caught = n .caught; lost = n .lost; cutoff = rw it (t .cutoff); high = rw it (t .high); far = rw it (t .far) }
+      let it = best-kept (height (tableOf p)) (n .number) (t .distance) size test in
+      record { inside = n .inside; caught = n .caught; lost = n .lost; cutoff = rw it (t .cutoff); high = rw it (t .high); distance = rw it (t .distance) }
 
 none : (t : Table) → pos 0 ≡ height t 0
 unfolding defaultsIn survivorsIn
@@ -126,7 +125,7 @@ loop-holds c =
       lost = rw end;
       cutoff = rw sub-self;
       high = rw sub-self (none (tableOf p));
-      far = rw sub-self (ap natAbs (none (tableOf p)));
+      distance = rw sub-self (ap natAbs (none (tableOf p)));
     })
 
 at : (c : tie.In-loop Inv-loop μ-loop) → Turn (now (c .before .before .before .before .args .place)) (c .before .loop .i)
