@@ -1,4 +1,4 @@
-/* The worked tables a to k of document 01 through the C interface. Prints each fact that does not hold. */
+/* The worked tables a to k of document 01, and R-1's of document 02, through the C interface. Prints each fact that does not hold. */
 #include "desk.h"
 
 #include <stdbool.h>

@@ -1,5 +1,5 @@
-//! The worked tables a to k of document 01, and book K; table f and Pietra as request R-1 of
-//! document 02 has them.
+//! The worked tables a to k of document 01, and book K; table f and others for Pietra as request
+//! R-1 of document 02 has them.
 
 use reference::book;
 use reference::cutoff::{cheapest_cost, verdict, Price, Verdict};

@@ -1,4 +1,4 @@
-"""Tests the Python module desk: the worked tables of document 01, its docstrings, its answers as values, desks beside each other, and
+"""Tests the Python module desk: the worked tables of documents 01 and 02, its docstrings, its answers as values, desks beside each other, and
 where the library is found. The other files here test its parts.
 
     python3 tests/desk/test_module.py     # from anywhere; DESK_LIBRARY may name the library

@@ -1,4 +1,4 @@
-//! The worked tables a to k of document 01.
+//! The worked tables a to k of document 01, and R-1's of document 02.
 
 mod common;
 

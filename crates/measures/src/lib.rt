@@ -26,7 +26,7 @@ pub struct SignedFraction {
     pub denominator: u64,
 }
 
-// D, S and the four measures of a table; `cutoff` is the smallest one with Pietra's distance.
+// D, S and the four measures of a table; `cutoff` is the smallest one at Pietra's distance from the diagonal.
 pub struct Measures {
     pub defaults: u32,
     pub survivors: Survivors,
