@@ -1,7 +1,7 @@
 //! Tables for Pietra, the largest distance of the curve from the diagonal on either side. A
 //! height is the yS - xD of a cutoff; cutoffs count grades from the worst one.
 
-use crate::measures::measures;
+use crate::measures::heights;
 use crate::partners::mixed_outcomes;
 use crate::population::{announce, any_grade_count, sort_by_rate};
 use crate::random::Random;
@@ -113,7 +113,7 @@ fn one_apart(random: &mut Random) -> Table {
     }
     let table = with_outcomes(&outcomes);
     let attempts = random.pick(&[0, 2, 10, 100]);
-    (0..attempts).fold(table, |table, _| split_unless_farther(random, table))
+    (0..attempts).fold(table, |table, _| split_within(random, table))
 }
 
 /// D, S, and a Y for which some X has YS - XD = 1.
@@ -128,9 +128,15 @@ fn totals_with_height_one(random: &mut Random) -> (u64, u64, u64) {
     }
 }
 
+/// How far below and above the diagonal the curve gets.
+fn extremes(table: &Table) -> (Option<i64>, Option<i64>) {
+    let heights = heights(table);
+    (heights.iter().min().copied(), heights.iter().max().copied())
+}
+
 /// Splits a grade in two at random, unless there are 40 or that takes the curve farther from the
-/// diagonal.
-fn split_unless_farther(random: &mut Random, table: Table) -> Table {
+/// diagonal on either side.
+fn split_within(random: &mut Random, table: Table) -> Table {
     let index = random.index(table.grades.len());
     let whole = table.grades[index];
     let defaults = random.between(0, whole.defaults);
@@ -149,8 +155,9 @@ fn split_unless_farther(random: &mut Random, table: Table) -> Table {
     ];
     let mut finer = table.clone();
     finer.grades.splice(index..=index, parts);
-    match measures(&finer).pietra == measures(&table).pietra {
-        true => finer,
-        false => table,
+    if extremes(&finer) == extremes(&table) {
+        finer
+    } else {
+        table
     }
 }

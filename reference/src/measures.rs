@@ -40,7 +40,7 @@ pub struct Measures {
     pub gini: Fraction,
     pub roc: Fraction,
     pub cap: Fraction,
-    /// Signed: negative where the curve is farthest from the diagonal below it.
+    /// Signed: negative where the curve, at its farthest from the diagonal, is below it.
     pub pietra: Fraction,
     /// The smallest g at which the curve is that far from the diagonal.
     pub pietra_cutoff: u32,

@@ -170,7 +170,7 @@ impl Tally {
     }
 }
 
-/// The side of the diagonal that Pietra is on, and what else comes as close.
+/// The side of the diagonal that Pietra is on, and what else is as far from it.
 fn pietra_kind(table: &Table, measures: &Measures) -> (&'static str, &'static str) {
     let height = measures.pietra.0;
     let side = match height.cmp(&0) {
@@ -183,7 +183,9 @@ fn pietra_kind(table: &Table, measures: &Measures) -> (&'static str, &'static st
     let as_far = match height.signum() - height {
         _ if later.contains(&-height) => "a later cutoff on the other side",
         _ if later.contains(&height) => "a later cutoff on the same side",
-        one_less if heights.contains(&one_less) => "none, but 1 less on the other side",
+        one_less if one_less != 0 && heights.contains(&one_less) => {
+            "none, but 1 less on the other side"
+        }
         _ => "none",
     };
     (side, as_far)

@@ -27,11 +27,15 @@ def measures_data(grades: Grades) -> dict[str, Any]:
     return data
 
 
+def about_sign(*measures: dict[str, Any] | None) -> list[str]:
+    """The line on Pietra's sign, where one is negative. A rater that is refused has no measures."""
+    below = any(each['pietra']['numerator'] < 0 for each in measures if each and each['pietra'])
+    return ['A negative Pietra: where the ROC curve is farthest from the diagonal, it is below it. Elsewhere it may be above.'] * below
+
+
 def about_measures(*measures: dict[str, Any]) -> list[str]:
     """The lines below a table of measures."""
-    below = any(each['pietra'] and each['pietra']['numerator'] < 0 for each in measures)
-    return ['Higher is better; of Brier, which scores the announced rates, lower.'] + [
-        'A negative Pietra: the ROC curve is farthest from the diagonal below it, as on a scale that is upside down.'] * below
+    return ['Higher is better; of Brier, which scores the announced rates, lower.', *about_sign(*measures)]
 
 
 # compare

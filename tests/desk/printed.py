@@ -107,4 +107,6 @@ def at_a_glance(text: str) -> dict[str, Any]:
     """All raters of a file: each a list of its cells."""
     heading, table = sections(text)
     file, count = re.fullmatch(r'(.*): (\d+) raters', heading[0]).groups()
-    return {'file': file, 'count': int(count), 'heading': cells(table[0]), 'raters': [cells(line) for line in table[1:]]}
+    raters = table[1:int(count) + 1]
+    return {'file': file, 'count': int(count), 'heading': cells(table[0]), 'raters': [cells(line) for line in raters],
+            'about': table[len(raters) + 1:]}

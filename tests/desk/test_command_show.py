@@ -17,7 +17,7 @@ sys.path.insert(0, os.path.dirname(os.path.abspath(__file__)))
 from running import EXAMPLES, Case, ask, book_of, content_of, csv_text, example, examples, run  # noqa: E402
 from books import described  # noqa: E402
 from definitions import decimal, measures_refusal, spread  # noqa: E402
-from expected import about_measures, grades_data, line_data, measures_data, rater_data  # noqa: E402
+from expected import about_measures, about_sign, grades_data, line_data, measures_data, rater_data  # noqa: E402
 from scales import AGENCY, INHOUSE, Scale, by, kinds_in, rater_of  # noqa: E402
 import printed  # noqa: E402
 
@@ -132,7 +132,8 @@ class AllRaters(Showing):
                                 'questions': data['questions']})
         self.assertEqual([each['number'] for each in data['refusals']], list(filter(None, refusals)))
         self.assertEqual(text, {'file': path, 'count': len(scales), 'heading': GLANCE_HEADING,
-                                'raters': [glance_cells(line, refusal) for line, refusal in zip(lines, refusals)]})
+                                'raters': [glance_cells(line, refusal) for line, refusal in zip(lines, refusals)],
+                                'about': about_sign(*(line['measures'] for line in lines))})
 
     def test_all_of_portfolio(self) -> None:
         path = example('portfolio.book')
@@ -149,6 +150,13 @@ class AllRaters(Showing):
         for number, refusal in ((5, 9), (6, 8), (7, 10), (8, 11)):
             line, = self.refused(refusal, 'show', example('refusals.book'), str(number))
             self.assertRegex(line, rf'byte \d+ \(rater {number}, grade 2, ')
+
+    def test_one_that_is_upside_down_among_them(self) -> None:
+        tables = [('obligors', rows) for rows in ([(2, 0, 0), (2, 2, 0)], [(2, 2, 0), (2, 0, 0)], [(2, 0, 0)])]
+        path = self.put('a.book', book_of(tables))
+        scales = [Scale(f'rater {number}', path, number, *each) for number, each in enumerate(tables, 1)]
+        self.glanced(path, scales, [None, None, 23])
+        self.assertIn('A negative Pietra', ask('show', path).out)
 
     def test_names_in_a_file_of_several(self) -> None:
         tables = [('obligors', [(3, 1, 5)]), ('survivors', [(3, 1, 5), (1, 2, 6)])]

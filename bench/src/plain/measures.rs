@@ -31,15 +31,24 @@ fn count_pairs(table: &Table) -> (i64, u32, u32) {
 
 /// The y S - x D of largest absolute size over all cutoffs, signed, and the smallest cutoff that has it.
 fn farthest(table: &Table, defaults: u32, survivors: u32) -> (i64, u32) {
-    let (mut height, mut distance, mut cutoff) = (0i64, 0u64, 0u32);
+    let obligors = i64::from(defaults) + i64::from(survivors);
+    let (mut highest, mut lowest) = ((0i64, 0u32), (0i64, 0u32));
     let mut here = 0i64;
     for (turned, (n, d)) in (1..).zip(table.counts().rev()) {
-        here += i64::from(d) * i64::from(survivors) - i64::from(n - d) * i64::from(defaults);
-        if here.unsigned_abs() > distance {
-            (height, distance, cutoff) = (here, here.unsigned_abs(), turned);
+        here += i64::from(d) * obligors - i64::from(n) * i64::from(defaults); // d S - s D
+        if here > highest.0 {
+            highest = (here, turned);
+        }
+        if here < lowest.0 {
+            lowest = (here, turned);
         }
     }
-    (height, cutoff)
+    // Of equal sizes that of the smaller cutoff.
+    if (highest.0, lowest.1) > (-lowest.0, highest.1) {
+        highest
+    } else {
+        lowest
+    }
 }
 
 pub fn measures(table: &Table) -> Result<Measures, Refusal> {

@@ -183,17 +183,17 @@ fn measures_print_in_one_line() {
         gini: fraction(-1, 12),
         roc: fraction(11, 24),
         cap: fraction(20, 42),
-        pietra: fraction(0, 12),
+        pietra: fraction(-5, 12),
         cutoff: 5,
     };
     assert_eq!(
         measures.to_string(),
         "Gini -0.083333 (-1/12), ROC area 0.458333 (11/24), CAP area 0.476190 (20/42), \
-         Pietra 0.000000 (0/12) at cutoff 5; 3 defaults, 4 survivors"
+         Pietra -0.416667 (-5/12) at cutoff 5; 3 defaults, 4 survivors"
     );
     assert_eq!(
         format!("{measures:.1}"),
         "Gini -0.1 (-1/12), ROC area 0.5 (11/24), CAP area 0.5 (20/42), \
-         Pietra 0.0 (0/12) at cutoff 5; 3 defaults, 4 survivors"
+         Pietra -0.4 (-5/12) at cutoff 5; 3 defaults, 4 survivors"
     );
 }

@@ -7,7 +7,7 @@ pub mod Listed
 pub mod Sizes
 pub mod Areas
 pub mod Curves
-pub mod Pietra
 pub mod Outcomes
 pub mod Proper
+pub mod Pietra
 pub mod Claimed

@@ -7,7 +7,7 @@ use lib.IntN.{natAbs}
 use lib.ListN.{length}
 use Rattle.table.specs.Table.{Table, defaultsIn, survivorsIn}
 use Rattle.pooling.specs.Fraction.{AtMost, Equal}
-use Rattle.pooling.proofs.Scaled.{Over, over-difference, over-same, at-most, equal, over-ratio}
+use Rattle.pooling.proofs.Scaled.{Over, over-difference, over-same, at-most, of-at-most, equal, over-ratio}
 use Rattle.cutoff.specs.Cutoff.{caught, lost}
 use Rattle.cutoff.proofs.Best.{IsBest, is-best}
 use Rattle.measures.specs.Measures.{pairs, height, farther, pietraAt, measuresOf}
@@ -15,6 +15,7 @@ use Rattle.measures.specs.Published.{signedValue, verticalDistance, abso
 use Rattle.measures.specs.Claims.{Mixed}
 use Rattle.measures.proofs.Signed.{larger-order}
 use Rattle.measures.proofs.Fractions.{over-signed, over-absolute}
+use Rattle.measures.proofs.Proper.{measures-proper}
 
 pub farthest : (t : Table) → IsBest farther (height t) (length t) (pietraAt t)
 farthest t = is-best farther (larger-order natAbs) (height t) (length t)
@@ -46,6 +47,10 @@ pietra-is-largest t mixed =
           (omega (arith, nltb→le (natAbs (height t (pietraAt t))) (natAbs (height t g)) (farthest t .none-better g l))),
     )
 
-pub smaller-is-nearer : (t : Table) (g : ℕ) → g < measuresOf t .cutoff → natAbs (height t g) < natAbs (measuresOf t .pietra .numerator)
+pub smaller-is-nearer : (t : Table) → Mixed t → (g : ℕ) → g < measuresOf t .cutoff
+    → ¬ AtMost (absolute (signedValue (measuresOf t .pietra))) (absolute (verticalDistance t g))
 unfolding measuresOf
-smaller-is-nearer t g l = ltb→lt (natAbs (height t g)) (natAbs (height t (pietraAt t))) (farthest t .smaller-worse g l)
+smaller-is-nearer t mixed g l h =
+    let p = measures-proper t mixed in
+    let as-far = of-at-most (over-absolute (pietra-over t)) (over-absolute (distance-over t g)) (p .pietra-size) (p .distance-sizes g) h in
+    omega (arith, as-far, ltb→lt (natAbs (height t g)) (natAbs (height t (pietraAt t))) (farthest t .smaller-worse g l))

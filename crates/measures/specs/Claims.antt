@@ -3,15 +3,15 @@
 use Prim.Native.Nat.{ℕ, _+_, _≤_, _<_}
 use mathlib.Core.Path.{_≡_}
 use mathlib.Core.Bool.{Bool, not}
-use lib.IntN.{natAbs}
 use lib.ListN.{length}
 use Rattle.table.specs.Table.{Table, Every, Counted, Rated, defaultsIn, survivorsIn, obligorsIn}
 use Rattle.pooling.specs.Fraction.{Proper, AtMost, Equal, ratio, sum, difference, product}
 use Rattle.measures.specs.Pairs.{number, obligorsOf, IsListOf, Pair, pairsAmong, isConcordant, isDiscordant, isTied}
 use Rattle.measures.specs.Pairs.{concordant, discordant, tied}
-use Rattle.measures.specs.Measures.{pairs, height, measuresOf}
+use Rattle.measures.specs.Measures.{pairs, measuresOf}
 use Rattle.measures.specs.Brier.{brierOf}
-use Rattle.measures.specs.Published.{value, signedValue, rocArea, capArea, probability, verticalDistance, absolute, outcomes, meanSquaredDifference}
+use Rattle.measures.specs.Published.{value, signedValue, rocArea, capArea, probability, verticalDistance, absolute}
+use Rattle.measures.specs.Published.{outcomes, meanSquaredDifference}
 
 -- A table with a default and a survivor.
 pub record Mixed (t : Table) : Type 0 where
@@ -83,10 +83,11 @@ PietraIsTheLargestDistance =
     × Equal (signedValue (measuresOf t .pietra)) (verticalDistance t (measuresOf t .cutoff))
     × ((g : ℕ) → g ≤ length t → AtMost (absolute (verticalDistance t g)) (absolute (signedValue (measuresOf t .pietra))))
 
--- "With the smallest such g", which "also decides the sign": every smaller cutoff has a y S - x D of smaller absolute size.
+-- "With the smallest such g", which "also decides the sign": every smaller cutoff has a distance of smaller absolute size.
 abbrev pub NoSmallerCutoffIsAsFar : Type 0
 NoSmallerCutoffIsAsFar =
-    (t : Table) (g : ℕ) → g < measuresOf t .cutoff → natAbs (height t g) < natAbs (measuresOf t .pietra .numerator)
+    (t : Table) → Mixed t → (g : ℕ) → g < measuresOf t .cutoff
+    → ¬ AtMost (absolute (signedValue (measuresOf t .pietra))) (absolute (verticalDistance t g))
 
 -- The Brier score is the mean squared difference of outcome and announced rate, each obligor counted.
 abbrev pub BrierIsTheMeanSquaredDifference : Type 0

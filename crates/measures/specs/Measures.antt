@@ -19,7 +19,7 @@ pairs t = defaultsIn t * survivorsIn t
 abbrev pub height : Table → ℕ → ℤ
 height t g = subℕ (caught t g * survivorsIn t) (lost t g * defaultsIn t)
 
--- The Pietra rule. A height is that of the ROC curve above its diagonal, times D S: x is farther from it than y if its absolute size is larger.
+-- The Pietra rule: x is farther than y if its absolute size is larger. A height is that of the ROC curve above the diagonal, times D S.
 abbrev pub farther : ℤ → ℤ → Bool
 farther x y = ltb (natAbs y) (natAbs x)
 

@@ -56,7 +56,7 @@ probability test t = ratio (number test (pairsAmong (obligorsOf t))) (length (pa
 abbrev pub verticalDistance : Table → ℕ → Fraction
 verticalDistance t g = difference (defaultShare t g) (survivorShare t g)
 
--- The absolute size of a fraction. Document 000, definition 2.3.4: the Pietra index is the largest one of the difference of the two shares.
+-- The absolute size of a fraction. Document 000, definition 2.3.4: the Pietra index is the largest one that the difference of the shares has.
 unfoldable pub absolute : Fraction → Fraction
 absolute x = ratio (natAbs (subℕ (x .plus) (x .minus))) (x .over)
 

@@ -18,7 +18,7 @@ CURVES = (('Gini', 'gini'), ('ROC area', 'roc'), ('CAP area', 'cap'), ('Pietra',
 ABOUT_BANDS = ('Grades with one pooled rate form a block. Band b has the pooled rates of at most 100 times 2^b ppm (0.01% times 2^b) '
                'that no lower band has;\nband 14 has those above 81.92%.')
 ABOUT_MEASURES = 'Higher is better; of Brier, which scores the announced rates, lower.'
-ABOUT_SIGN = 'A negative Pietra: the ROC curve is farthest from the diagonal below it, as on a scale that is upside down.'
+ABOUT_SIGN = 'A negative Pietra: where the ROC curve is farthest from the diagonal, it is below it. Elsewhere it may be above.'
 
 
 class Measured(NamedTuple):
@@ -55,8 +55,12 @@ def measures_table(measures: Sequence[Measured], names: Sequence[str]) -> list[s
         return [str(getattr(each.measures, name)) if each.measures else f'refused {each.refusals[0].number}' for each in measures]
     rows = [(label, *cells(name)) for label, name in CURVES]
     rows += [('  at cutoff', *cells('cutoff')), ('Brier', *(str(each.brier) for each in measures))]
-    below = any(each.measures and each.measures.pietra < 0 for each in measures)
-    return columns([('', *names), *rows]) + [ABOUT_MEASURES] + [ABOUT_SIGN] * below
+    return columns([('', *names), *rows]) + [ABOUT_MEASURES, *about_sign([each.data() for each in measures])]
+
+
+def about_sign(measures: Sequence[dict[str, Any] | None]) -> list[str]:
+    """What to say below the data of measures, some of which may be refused: a line where a Pietra is negative."""
+    return [ABOUT_SIGN] if any(each and each['pietra'] and each['pietra']['numerator'] < 0 for each in measures) else []
 
 
 # One rater
@@ -112,7 +116,8 @@ def glance(source: Source, library: str) -> Outcome:
         data.append(found)
         asked += questions_of_it
         refusals += complaints
-    text = '\n'.join([f'{plain(source.file)}: {counted(len(source.raters), "rater")}', '', *columns(rows, 'r rrrrrrrrrrr')])
+    text = '\n'.join([f'{plain(source.file)}: {counted(len(source.raters), "rater")}', '', *columns(rows, 'r rrrrrrrrrrr'),
+                      *about_sign([found['measures'] for found in data])])
     return Outcome(text, {'command': 'show', 'file': source.file, 'raters': data}, asked, refusals)
 
 
