@@ -48,7 +48,7 @@
  * version does not link: the linker reports desk_library_is_version_N as undefined, N being the number below. Then take
  * header and library of one version and compile again. Who loads the library at run time by hand, and so does not link with
  * it, defines DESK_LOADED_BY_HAND before this header and compares desk_version() with DESK_VERSION. */
-#define DESK_VERSION 2
+#define DESK_VERSION 3
 
 #define DESK_GRADES 40            /* the most grades of a table */
 #define DESK_MAX_OBLIGORS 1000000 /* the most obligors of a table */
@@ -63,7 +63,6 @@
     X(DESK_REFUSED_LENGTH, 2, "book under 4 bytes, or its stated length is not the length lent") \
     X(DESK_REFUSED_RATERS, 3, "R outside 1 to 16, or the book ends within the offsets (R: number of raters)") \
     X(DESK_REFUSED_RATER, 4, "rater outside 1 to R (R: number of raters)") \
-    X(DESK_REFUSED_LAYOUT, 5, "a table does not start where the one before ended, runs past the end, or bytes follow the last") \
     X(DESK_REFUSED_GRADES, 6, "grade count outside 1 to 40") \
     X(DESK_REFUSED_KIND, 7, "kind above 1, or the two bytes after it not zero") \
     X(DESK_REFUSED_DEFAULTS, 8, "defaults above obligors (kind 0)") \
@@ -76,7 +75,10 @@
     X(DESK_REFUSED_EMPTY, 22, "place empty") \
     X(DESK_REFUSED_NO_DEFAULTS, 23, "no defaults") \
     X(DESK_REFUSED_NO_SURVIVORS, 24, "no survivors") \
-    X(DESK_REFUSED_UNLIKE, 25, "D or S differ between the places (D: defaults, S: survivors)")
+    X(DESK_REFUSED_UNLIKE, 25, "D or S differ between the places (D: defaults, S: survivors)") \
+    X(DESK_REFUSED_TABLE_START, 31, "a table starts elsewhere than where the last one ended") \
+    X(DESK_REFUSED_TABLE_END, 32, "a table runs past the end, in header or rows") \
+    X(DESK_REFUSED_LEFTOVER, 33, "bytes after the last table")
 #define DESK_CONSTANT(constant, number, meaning) constant = number,
 enum { DESK_REFUSALS(DESK_CONSTANT) };
 
@@ -103,6 +105,12 @@ typedef enum DeskCounts { DESK_BY_OBLIGORS = 'o', DESK_BY_SURVIVORS = 's' } Desk
 typedef struct DeskRow { uint32_t count, defaults, announced; } DeskRow;
 /* A book of one table: its first `length` bytes. */
 typedef struct DeskBook { uint8_t bytes[DESK_TABLE_BYTES]; size_t length; } DeskBook;
+/* Where a book is cut wrong: whose table to look at, the byte, and what was expected and found there.
+ * 31: the offset at `byte` says that the rater's table starts at byte `found`; it has to start at byte `expected`, where the last
+ *     one ended (of rater 1, where the offsets end).
+ * 32: the rater's table starts at `byte` and would end at byte `expected` (its header, if that is byte + 4); the book ends at `found`.
+ * 33: the table of the last rater ends at `byte`, where the book was `expected` to end; it ends at `found`, found - expected bytes on. */
+typedef struct DeskCut { uint32_t rater; size_t byte, expected, found; } DeskCut;
 
 /* A result that is not looked at is warned about: a verdict that was refused may read as Equal. */
 #define DESK_CHECKED __attribute__((warn_unused_result))
@@ -114,7 +122,7 @@ typedef struct DeskBook { uint8_t bytes[DESK_TABLE_BYTES]; size_t length; } Desk
 DESK_ASSERT(sizeof(Desk) == 976 && sizeof(DeskPlace) == 488 && sizeof(size_t) == 8, "as in the library");
 DESK_ASSERT(sizeof(DeskCutoff) == 16 && sizeof(DeskPrice) == 8 && sizeof(DeskVerdict) == 20, "as in the library");
 DESK_ASSERT(sizeof(DeskFraction) == 16 && sizeof(DeskMeasures) == 88 && sizeof(DeskSpread) == 16, "as in the library");
-DESK_ASSERT(sizeof(DeskRow) == 12 && sizeof(DeskBook) == 504, "as in a book");
+DESK_ASSERT(sizeof(DeskRow) == 12 && sizeof(DeskBook) == 504 && sizeof(DeskCut) == 32, "as in a book");
 
 #ifdef __cplusplus
 extern "C" {
@@ -128,10 +136,10 @@ uint32_t desk_empty(Desk *desk);
 
 /* Fills an empty place with the table of one rater, 1 to R, of a book. The table's kind says what its first column counts, and
  * a place holds obligors. The dearest mistake there is: survivors taken for obligors leave every figure looking right and can
- * make the losing scale win.
+ * make the losing scale win. After 31, 32 and 33, where a book is cut wrong, desk_cut says which table to look at, and where.
  * Writes: the place. Keeps: the other place, the book.
- * Refuses: 1, 21, 2, 3, 4; table by table 5 (start, header), 6, 7, 5 (rows); 5 (bytes left over); of the rater's rows, one by
- * one, 8, 9, 10; 11. */
+ * Refuses: 1, 21, 2, 3, 4; table by table 31 (start), 32 (header), 6, 7, 32 (rows); 33 (bytes left over); of the rater's rows,
+ * one by one, 8, 9, 10; 11. */
 uint32_t desk_load(Desk *desk, uint32_t place, const uint8_t *book, size_t length, uint32_t rater) DESK_CHECKED;
 
 /* Empties a loaded place.
@@ -236,6 +244,37 @@ DESK_CHECKED static inline uint32_t desk_load_rows(Desk *desk, uint32_t place, D
     DeskBook laid_out;
     desk_lay_out(&laid_out, counts, rows, grades);
     return desk_load(desk, place, laid_out.bytes, laid_out.length, 1);
+}
+
+/* Finds where a book is cut wrong, after desk_load refused a rater of it with 31, 32 or 33: the first table that is not in its
+ * place, or what follows the last. Returns what the library refuses the book with if that is 31, 32 or 33, and 0 otherwise.
+ * Writes: the answer, unless 0 is returned. Keeps: the answer if 0 is returned, the book. Refuses nothing. */
+DESK_CHECKED static inline uint32_t desk_cut(const uint8_t *book, size_t length, DeskCut *answer)
+{
+    Desk desk;
+    uint32_t refusal, raters, rater;
+    size_t end;
+    desk_empty(&desk);
+    refusal = desk_load(&desk, 1, book, length, 1);
+    if (refusal != DESK_REFUSED_TABLE_START && refusal != DESK_REFUSED_TABLE_END && refusal != DESK_REFUSED_LEFTOVER) {
+        return 0;
+    }
+    raters = book[0]; /* at most 16, and their offsets are within the book: the library has looked */
+    end = 4 + 2 * raters;
+    for (rater = 1; rater <= raters; rater++) {
+        const size_t offset = 2 + 2 * rater, start = book[offset] + 256U * book[offset + 1], last_end = end;
+        const DeskCut elsewhere = {rater, offset, last_end, start};
+        end = start + 4 <= length ? start + 4 + 12U * book[start] : start + 4;
+        if (start != last_end || end > length) {
+            const DeskCut past_the_end = {rater, start, end, length};
+            *answer = start != last_end ? elsewhere : past_the_end;
+            return refusal;
+        }
+    }
+    answer->rater = raters;
+    answer->byte = answer->expected = end;
+    answer->found = length;
+    return refusal;
 }
 
 /* The meaning of a refusal number, in words. */

@@ -12,8 +12,29 @@ static void accept_or_exit(const char *what, uint32_t refusal)
     }
 }
 
+/* What to look for in a book that is cut wrong: the rater and the byte. */
+static void say_cut(uint32_t refusal, DeskCut cut)
+{
+    if (refusal == DESK_REFUSED_TABLE_START) {
+        fprintf(stderr, "; byte %zu: the table of rater %" PRIu32 " is said to start at byte %zu", cut.byte, cut.rater, cut.found);
+        fprintf(stderr, "; expected byte %zu, where ", cut.expected);
+        if (cut.rater == 1) {
+            fputs("the offsets end", stderr);
+        } else {
+            fprintf(stderr, "the table of rater %" PRIu32 " ends", cut.rater - 1);
+        }
+    } else if (refusal == DESK_REFUSED_TABLE_END) {
+        fprintf(stderr, "; byte %zu: the book ends here; the table of rater %" PRIu32 " starts at byte %zu", cut.found, cut.rater, cut.byte);
+        fprintf(stderr, ", bytes missing from its %s: %zu", cut.expected == cut.byte + 4 ? "header" : "rows", cut.expected - cut.found);
+    } else {
+        fprintf(stderr, "; byte %zu: the table of rater %" PRIu32 ", the last, ends here", cut.byte, cut.rater);
+        fprintf(stderr, "; bytes that follow it: %zu, expected none", cut.found - cut.expected);
+    }
+}
+
 static void load(Desk *desk, uint32_t place, const char *path, const char *rater)
 {
+    DeskCut cut;
     static uint8_t book[65536]; /* one byte more than a book can have */
     unsigned long number = strtoul(rater, NULL, 10);
     FILE *file = fopen(path, "rb");
@@ -23,7 +44,15 @@ static void load(Desk *desk, uint32_t place, const char *path, const char *rater
     }
     size_t length = fread(book, 1, sizeof book, file);
     fclose(file);
-    accept_or_exit(path, desk_load(desk, place, book, length, number <= UINT32_MAX ? (uint32_t)number : 0));
+    const uint32_t refusal = desk_load(desk, place, book, length, number <= UINT32_MAX ? (uint32_t)number : 0);
+    if (refusal != 0) {
+        fprintf(stderr, "%s: refused %" PRIu32 ": %s", path, refusal, desk_meaning(refusal));
+        if (desk_cut(book, length, &cut) == refusal) {
+            say_cut(refusal, cut);
+        }
+        fputc('\n', stderr);
+        exit(1);
+    }
 }
 
 static void say_costs(const Desk *desk, DeskPrice price)

@@ -11,8 +11,8 @@ pub const TABLE_HEAD_BYTES: usize = 4;
 /// First column, defaults, announced rate.
 pub const ROW_BYTES: usize = 12;
 
-/// Reads the table of one rater, or finds the refusal number (2 to 11) of the first check that
-/// fails: the whole layout first, then the rows of this rater only.
+/// Reads the table of one rater, or finds the refusal number of the first check that fails: the
+/// whole layout first (2 to 4, 6, 7, 31 to 33), then the rows of this rater only (8 to 11).
 pub fn read(book: &[u8], rater: u32) -> Result<Table, Refusal> {
     let raters = count_raters(book)?;
     if rater < 1 || rater as usize > raters {
@@ -34,28 +34,29 @@ fn count_raters(book: &[u8]) -> Result<usize, Refusal> {
     Ok(raters)
 }
 
-/// Refusals 5, 6, 7: table by table; then 5 for bytes after the last. Answers the tables' starts.
+/// Refusals 31, 32, 6, 7, 32 table by table, then 33: R-2's numbers stand where document 01 has 5,
+/// which is never given. Answers the tables' starts.
 fn check_layout(book: &[u8], raters: usize) -> Result<Vec<usize>, Refusal> {
     let mut starts = Vec::new();
     let mut end = HEAD_BYTES + 2 * raters;
     for index in 0..raters {
         let start = two_bytes(book, HEAD_BYTES + 2 * index);
         if start != end {
-            return Err(5);
+            return Err(31);
         }
         end = check_table(book, start)?;
         starts.push(start);
     }
     if end != book.len() {
-        return Err(5);
+        return Err(33);
     }
     Ok(starts)
 }
 
-/// Refusals 5 (header), 6, 7, 5 (rows) of one table. Answers where it ends.
+/// Refusals 32 (header), 6, 7, 32 (rows) of one table. Answers where it ends.
 fn check_table(book: &[u8], start: usize) -> Result<usize, Refusal> {
     if start + TABLE_HEAD_BYTES > book.len() {
-        return Err(5);
+        return Err(32);
     }
     let grades = book[start] as usize;
     if !(1..=MAX_GRADES).contains(&grades) {
@@ -66,7 +67,7 @@ fn check_table(book: &[u8], start: usize) -> Result<usize, Refusal> {
     }
     let end = start + TABLE_HEAD_BYTES + ROW_BYTES * grades;
     if end > book.len() {
-        return Err(5);
+        return Err(32);
     }
     Ok(end)
 }

@@ -1,14 +1,15 @@
 //! Every way to damage a book that a refusal number names.
 
-use crate::book::{HEAD_BYTES, ROW_BYTES, TABLE_HEAD_BYTES};
+use crate::book::HEAD_BYTES;
+use crate::cuts;
 use crate::draft::{Column, Draft};
 use crate::random::Random;
-use crate::table::{MAX_GRADES, MAX_OBLIGORS, MILLION};
+use crate::table::{Refusal, MAX_GRADES, MAX_OBLIGORS, MILLION};
 
 /// The refusal number that the damage alone leads to, and the damage.
-pub type Way = (u32, fn(&mut Random, &mut Draft));
+pub type Way = (Refusal, fn(&mut Random, &mut Draft));
 
-pub const WAYS: [Way; 24] = [
+pub const WAYS: [Way; 26] = [
     (2, shorten_below_head),
     (2, misstate_length),
     (2, cut_unstated),
@@ -16,16 +17,18 @@ pub const WAYS: [Way; 24] = [
     (3, misstate_raters),
     (3, end_within_offsets),
     (4, misname_rater),
-    (5, end_behind_offsets),
-    (5, shift_offset),
-    (5, cut_rows),
-    (5, cut_header),
-    (5, leave_bytes_over),
-    (5, miscount_grades),
+    (31, any_offset_misstated),
+    (31, any_table_elsewhere),
+    (32, end_behind_offsets),
+    (32, any_header_cut),
+    (32, any_rows_cut),
+    (32, any_count_past_end),
     (6, grade_count_outside),
     (6, forty_one_grades),
     (7, odd_kind),
     (7, odd_zero_bytes),
+    (33, cuts::leave_over),
+    (33, cuts::leave_rows),
     (8, defaults_above_obligors),
     (8, defaults_of_nobody),
     (9, empty_grade),
@@ -35,11 +38,22 @@ pub const WAYS: [Way; 24] = [
     (11, wrapping_total),
 ];
 
+/// The numbers of `WAYS` in the order in which load comes to them first.
+pub const LOAD_ORDER: [Refusal; 12] = [2, 3, 4, 31, 32, 6, 7, 33, 8, 9, 10, 11];
+
 /// A way to damage, each refusal number as often as the others.
 pub fn any_way(random: &mut Random) -> Way {
-    let number = random.between(2, 11) as u32;
+    let number = random.pick(&LOAD_ORDER);
     let ways: Vec<Way> = WAYS.into_iter().filter(|way| way.0 == number).collect();
     random.pick(&ways)
+}
+
+/// The ways of this number and of those that load comes to after it.
+pub fn ways_from(number: Refusal) -> Vec<Way> {
+    let before = LOAD_ORDER.iter().take_while(|&&early| early != number);
+    let before: Vec<&Refusal> = before.collect();
+    let not_before = |way: &Way| !before.contains(&&way.0);
+    WAYS.into_iter().filter(not_before).collect()
 }
 
 fn shorten_below_head(random: &mut Random, draft: &mut Draft) {
@@ -96,46 +110,29 @@ fn end_behind_offsets(_: &mut Random, draft: &mut Draft) {
     draft.restate_length();
 }
 
-fn shift_offset(random: &mut Random, draft: &mut Draft) {
+fn any_table_elsewhere(random: &mut Random, draft: &mut Draft) {
     let index = random.index(draft.raters());
-    let start = draft.start(index) as u16;
-    let shifted = random.pick(&[start - 1, start + 1, start + 12, start ^ 0x100, 0, u16::MAX]);
-    draft.put(HEAD_BYTES + 2 * index, &shifted.to_le_bytes());
+    cuts::start_elsewhere(random, draft, index);
 }
 
-/// Cuts somewhere into the rows of a table, and with them all tables behind it.
-fn cut_rows(random: &mut Random, draft: &mut Draft) {
+fn any_offset_misstated(random: &mut Random, draft: &mut Draft) {
     let index = random.index(draft.raters());
-    let rows = draft.start(index) + TABLE_HEAD_BYTES;
-    let cut = rows + random.index(ROW_BYTES * draft.grade_count(index));
-    draft.bytes.truncate(cut);
-    draft.restate_length();
+    cuts::misstate_offset(random, draft, index);
 }
 
-fn cut_header(random: &mut Random, draft: &mut Draft) {
+fn any_rows_cut(random: &mut Random, draft: &mut Draft) {
     let index = random.index(draft.raters());
-    let cut = draft.start(index) + random.index(TABLE_HEAD_BYTES);
-    draft.bytes.truncate(cut);
-    draft.restate_length();
+    cuts::cut_rows(random, draft, index);
 }
 
-fn leave_bytes_over(random: &mut Random, draft: &mut Draft) {
-    let room = 65_535_usize.saturating_sub(draft.bytes.len());
-    let more = random.pick(&[1, 1, 2, 4, 12, 16]).min(room);
-    let byte = random.pick(&[0, 1, 255]);
-    draft.bytes.extend(vec![byte; more]);
-    draft.restate_length();
+fn any_header_cut(random: &mut Random, draft: &mut Draft) {
+    let index = random.index(draft.raters());
+    cuts::cut_header(random, draft, index);
 }
 
-/// A grade count within 1 to 40 that is not the count of the rows.
-fn miscount_grades(random: &mut Random, draft: &mut Draft) {
+fn any_count_past_end(random: &mut Random, draft: &mut Draft) {
     let index = random.index(draft.raters());
-    let right = draft.grade_count(index);
-    let near = if right < MAX_GRADES { right + 1 } else { 1 };
-    let any = random.between(1, MAX_GRADES as u64) as usize;
-    let wrong = if any == right { near } else { any };
-    let count = random.pick(&[near, wrong]) as u8;
-    draft.put(draft.start(index), &[count]);
+    cuts::count_past_end(random, draft, index);
 }
 
 fn grade_count_outside(random: &mut Random, draft: &mut Draft) {

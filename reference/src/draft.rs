@@ -69,6 +69,21 @@ impl Draft {
         self.tables[index].1
     }
 
+    /// Where the table would end if it had so many grades.
+    pub(crate) fn end_with(&self, index: usize, grade_count: usize) -> usize {
+        self.start(index) + TABLE_HEAD_BYTES + ROW_BYTES * grade_count
+    }
+
+    pub(crate) fn end(&self, index: usize) -> usize {
+        self.end_with(index, self.grade_count(index))
+    }
+
+    /// The bytes of a table; none if the book does not hold it whole.
+    pub(crate) fn table(&self, index: usize) -> Vec<u8> {
+        let bytes = self.bytes.get(self.start(index)..self.end(index));
+        bytes.unwrap_or_default().to_vec()
+    }
+
     pub fn column(&self, index: usize, grade: usize, column: Column) -> usize {
         self.start(index) + TABLE_HEAD_BYTES + ROW_BYTES * grade + 4 * column as usize
     }
@@ -80,6 +95,60 @@ impl Draft {
                 *old = byte;
             }
         }
+    }
+
+    pub(crate) fn put_offset(&mut self, index: usize, offset: usize) {
+        self.put(HEAD_BYTES + 2 * index, &(offset as u16).to_le_bytes());
+    }
+
+    /// States where this table and those behind it stand now.
+    pub(crate) fn restate_offsets(&mut self, first: usize) {
+        for index in first..self.raters() {
+            self.put_offset(index, self.start(index));
+        }
+    }
+
+    /// Puts bytes in; tables from there on stand further back, which the offsets do not tell.
+    pub(crate) fn insert(&mut self, at: usize, bytes: &[u8]) {
+        let at = at.min(self.bytes.len());
+        self.bytes.splice(at..at, bytes.iter().copied());
+        for table in self.tables.iter_mut().filter(|table| table.0 >= at) {
+            table.0 += bytes.len();
+        }
+        self.restate_length();
+    }
+
+    /// Takes bytes out; tables behind them move up, which the offsets do not tell.
+    pub(crate) fn remove(&mut self, from: usize, to: usize) {
+        let length = self.bytes.len();
+        self.bytes.drain(from.min(length)..to.min(length));
+        for table in self.tables.iter_mut().filter(|table| table.0 >= to) {
+            table.0 -= to - from;
+        }
+        self.restate_length();
+    }
+
+    /// Adds a grade of one obligor to a table; the offsets behind it stay as they were.
+    pub(crate) fn add_grade(&mut self, index: usize) {
+        self.insert(self.end(index), &[1, 0, 0, 0, 0, 0, 0, 0, 0, 0, 0, 0]);
+        self.tables[index].1 += 1;
+        self.restate_grade_count(index);
+    }
+
+    /// Takes the last grade from a table; the offsets behind it stay as they were.
+    pub(crate) fn drop_grade(&mut self, index: usize) {
+        self.remove(self.end(index) - ROW_BYTES, self.end(index));
+        self.tables[index].1 -= 1;
+        self.restate_grade_count(index);
+    }
+
+    fn restate_grade_count(&mut self, index: usize) {
+        self.put_grade_count(index, self.grade_count(index));
+    }
+
+    /// States a grade count; the rows stay as they are.
+    pub(crate) fn put_grade_count(&mut self, index: usize, grade_count: usize) {
+        self.put(self.start(index), &[grade_count as u8]);
     }
 
     /// Reads a 4-byte number; 0 if the book ends before.

@@ -1,6 +1,7 @@
 //! The generator of scripts: scenes of a few calls each, one after the other on the same desk.
 //! The same seed and number of calls, the same script.
 
+use crate::cut_scene::{every_cut, Cut};
 use crate::desk::Desk;
 use crate::draft::Draft;
 use crate::random::Random;
@@ -8,6 +9,7 @@ use crate::scenes::SCENES;
 use crate::script::{decode, Call};
 use crate::table::Table;
 use crate::tail::broken_tail;
+use std::collections::BTreeMap;
 
 /// A script, with the name of the scene that each call belongs to.
 pub struct Script {
@@ -19,6 +21,11 @@ pub struct Script {
 
 impl Script {
     pub fn generate(seed: u64, calls: usize) -> Script {
+        Script::with_cuts(seed, calls).0
+    }
+
+    /// The script, and how books of it are cut wrong, by the index of the call that loads them.
+    pub(crate) fn with_cuts(seed: u64, calls: usize) -> (Script, BTreeMap<usize, Cut>) {
         let mut generator = Generator::of_seed(seed);
         while generator.calls.len() < calls {
             generator.scene();
@@ -29,11 +36,12 @@ impl Script {
             true => broken_tail(&mut generator.random),
             false => vec![],
         };
-        Script {
+        let script = Script {
             calls: generator.calls,
             scenes: generator.scenes,
             tail,
-        }
+        };
+        (script, generator.cuts)
     }
 
     /// The script that these bytes are.
@@ -61,6 +69,8 @@ pub struct Generator {
     pub desk: Desk,
     calls: Vec<Call>,
     scenes: Vec<&'static str>,
+    cuts: BTreeMap<usize, Cut>,
+    cuts_to_come: Vec<Cut>,
     name: &'static str,
 }
 
@@ -71,6 +81,8 @@ impl Generator {
             desk: Desk::fresh(),
             calls: vec![],
             scenes: vec![],
+            cuts: BTreeMap::new(),
+            cuts_to_come: vec![],
             name: "",
         }
     }
@@ -97,6 +109,21 @@ impl Generator {
     pub fn load(&mut self, place: u32, draft: Draft) {
         let (rater, book) = (draft.rater, draft.bytes);
         self.emit(Call::Load { place, rater, book });
+    }
+
+    /// Each as often as the others, so that none is rare.
+    pub(crate) fn next_cut(&mut self) -> Cut {
+        if self.cuts_to_come.is_empty() {
+            self.cuts_to_come = every_cut();
+            self.random.shuffle(&mut self.cuts_to_come);
+        }
+        self.cuts_to_come.pop().expect("just filled")
+    }
+
+    /// A load of a book that is cut wrong in this manner.
+    pub(crate) fn load_cut(&mut self, place: u32, draft: Draft, cut: Cut) {
+        self.cuts.insert(self.calls.len(), cut);
+        self.load(place, draft);
     }
 
     pub fn load_pair(&mut self, (first, second): (Table, Table)) {

@@ -1,19 +1,21 @@
-//! The rating scale desk in plain Rust, written from document 01, request R-1 of document 02 and
-//! REPLAY.md alone: a second opinion on the proved library. Everything is done by definition, not
-//! cleverly, so that it can be read next to the documents.
+//! The rating scale desk in plain Rust, written from document 01, requests of document
+//! 02 and REPLAY.md alone: a second opinion on the proved library. Everything is done by
+//! definition, not cleverly, so that it can be read next to the documents.
 //!
 //! * the library: `table`, `book`, `pooling`, `cutoff`, `measures`, `spread`, `desk`, `print`;
 //! * the scripts of REPLAY.md: `script` (calls), `answer` (lines);
 //! * the generator: `random`, `population` (tables), `partners` (pairs of tables), `diagonal`
-//!   (tables for Pietra), `draft` (books), `damage` (of books), `operands`, `scenes`, `tail`,
-//!   `generate`;
+//!   (tables for Pietra), `draft` (books), `damage` and `cuts` (of books), `operands`, `scenes`,
+//!   `cut_scene`, `tail`, `generate`;
 //! * the comparison: `compare`, `tally`;
 //! * `natural`: whole numbers of any size, for the bound on the residual.
 
 pub mod answer;
 pub mod book;
 pub mod compare;
+pub mod cut_scene;
 pub mod cutoff;
+pub mod cuts;
 pub mod damage;
 pub mod desk;
 pub mod diagonal;

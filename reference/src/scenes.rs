@@ -1,7 +1,7 @@
 //! The scenes of generated scripts: a few calls each that belong together.
 
 use crate::book;
-use crate::damage::{any_way, WAYS};
+use crate::damage::{any_way, ways_from, WAYS};
 use crate::diagonal::table_for_pietra;
 use crate::draft::Draft;
 use crate::generate::Generator;
@@ -14,13 +14,14 @@ use crate::table::{Table, MAX_GRADES, MAX_OBLIGORS};
 pub type Scene = (&'static str, fn(&mut Generator));
 
 /// How often each scene is taken, in proportion.
-pub const SCENES: [(u64, Scene); 10] = [
+pub const SCENES: [(u64, Scene); 11] = [
     (40, ("two raters, same obligors", Generator::same_obligors)),
     (6, ("two raters, other obligors", Generator::other_obligors)),
     (14, ("one table, all questions", Generator::one_table)),
     (24, ("far from the diagonal", Generator::far_from_diagonal)),
     (30, ("damaged book", Generator::damaged_book)),
     (22, ("several faults at once", Generator::several_faults)),
+    (18, ("book cut wrong", Generator::book_cut_wrong)),
     (2, ("junk for a book", Generator::junk_book)),
     (4, ("wandering calls", Generator::wandering)),
     (5, ("at the limits", Generator::limits)),
@@ -114,8 +115,9 @@ impl Generator {
         }
         let table = any_table(&mut self.random);
         let mut draft = Draft::around(&mut self.random, &table);
-        let lowest = self.random.pick(&[2, 3, 5, 5, 8, 8]);
-        let ways: Vec<_> = WAYS.into_iter().filter(|way| way.0 >= lowest).collect();
+        // Early checks would hide the late ones.
+        let earliest = self.random.pick(&[2, 3, 31, 31, 8, 8]);
+        let ways = ways_from(earliest);
         for _ in 0..self.random.between(2, 4) {
             let (_, damage) = self.random.pick(&ways);
             damage(&mut self.random, &mut draft);

@@ -1,8 +1,9 @@
-//! How often one run exercises which operations, verdicts, kinds of Pietra, refusal numbers,
-//! buffers and scenes.
+//! How often one run exercises which operations, verdicts, kinds of Pietra, refusal numbers, books
+//! cut wrong, buffers and scenes.
 
 use crate::answer::{verdict_name, Answer};
 use crate::compare::plan;
+use crate::cut_scene::Cut;
 use crate::desk::Desk;
 use crate::generate::Script;
 use crate::measures::{heights, Measures};
@@ -22,9 +23,18 @@ pub struct Tally {
     pietras: BTreeMap<(&'static str, &'static str), usize>,
     /// For each refusal number, the calls of each operation.
     refusals: BTreeMap<Refusal, BTreeMap<&'static str, usize>>,
+    cuts: BTreeMap<Cut, CutLoads>,
     /// Lent buffers against what the call needs.
     buffers: BTreeMap<(&'static str, &'static str), usize>,
     scenes: BTreeMap<&'static str, usize>,
+}
+
+/// Loads of books that are cut wrong in one manner.
+#[derive(Default)]
+struct CutLoads {
+    /// Of the first rater, of one between, of the last.
+    by_rater: [usize; 3],
+    answers: BTreeMap<Option<Refusal>, usize>,
 }
 
 impl Tally {
@@ -32,22 +42,40 @@ impl Tally {
     pub fn of_run(seed: u64, calls: usize) -> Tally {
         let mut tally = Tally::default();
         for (seed, calls) in plan(seed, calls) {
-            tally.add_script(&Script::generate(seed, calls));
+            let (script, cuts) = Script::with_cuts(seed, calls);
+            tally.add_script(&script, &cuts);
         }
         tally
     }
 
-    fn add_script(&mut self, script: &Script) {
+    fn add_script(&mut self, script: &Script, cuts: &BTreeMap<usize, Cut>) {
         self.scripts += 1;
         self.broken_scripts += usize::from(!script.tail.is_empty());
         let mut desk = Desk::fresh();
-        for (call, scene) in script.calls.iter().zip(&script.scenes) {
+        for (index, (call, scene)) in script.calls.iter().zip(&script.scenes).enumerate() {
             *self.scenes.entry(scene).or_default() += 1;
             self.add_buffer(&desk, call);
             self.add_pietra(&desk, call);
             let answer = desk.call(call);
             self.add_answer(call.name(), &answer);
+            if let Some(&cut) = cuts.get(&index) {
+                self.add_cut(cut, call, &answer);
+            }
         }
+    }
+
+    fn add_cut(&mut self, cut: Cut, call: &Call, answer: &Answer) {
+        let Call::Load { rater, book, .. } = call else {
+            return;
+        };
+        let loads = self.cuts.entry(cut).or_default();
+        let position = match *rater {
+            1 => 0,
+            rater if rater < book[0].into() => 1,
+            _ => 2,
+        };
+        loads.by_rater[position] += 1;
+        *loads.answers.entry(answer.refusal()).or_default() += 1;
     }
 
     fn add_answer(&mut self, operation: &'static str, answer: &Answer) {
@@ -102,6 +130,7 @@ impl Tally {
             self.verdict_table(),
             self.pietra_table(),
             self.refusal_table(),
+            self.cut_table(),
             self.buffer_table(),
             self.scene_table(),
         ]
@@ -149,6 +178,26 @@ impl Tally {
                 .map(|(operation, times)| format!("{operation} {times}"))
                 .collect();
             text += &format!("| {number} | {times} | {} |\n", parts.join(", "));
+        }
+        text
+    }
+
+    fn cut_table(&self) -> String {
+        let mut text = "\
+            | cut wrong | table | then | first, middle, last rater | answers |\n\
+            | --- | --- | --- | --- | --- |\n"
+            .to_string();
+        for (cut, CutLoads { by_rater, answers }) in &self.cuts {
+            let [first, middle, last] = by_rater;
+            let answers: Vec<String> = answers
+                .iter()
+                .map(|(answer, times)| match answer {
+                    Some(number) => format!("{number}: {times}"),
+                    None => format!("ok: {times}"),
+                })
+                .collect();
+            let answers = answers.join(", ");
+            text += &format!("| {cut} | {first}, {middle}, {last} | {answers} |\n");
         }
         text
     }

@@ -3,7 +3,7 @@
 use reference::compare::{answers, compare, judge};
 use reference::desk::Desk;
 use reference::generate::Script;
-use reference::script::decode;
+use reference::script::{decode, Call};
 use reference::tally::Tally;
 
 fn own_answers(script: &Script) -> String {
@@ -107,7 +107,7 @@ fn missing_and_additional_output_is_noticed() {
 
 /// A script that compares the two raters of table h: crossing.
 fn crossing_script() -> Script {
-    use reference::{book, script::Call, table::Table};
+    use reference::{book, table::Table};
     let first = Table::of_rows(&[(5, 2), (1, 1)]);
     let second = Table::of_rows(&[(2, 0), (4, 3)]);
     let load = |place, rater| Call::Load {
@@ -207,11 +207,64 @@ fn pietras() -> Vec<String> {
 fn a_run_exercises_everything() {
     let table = Tally::of_run(1, 20_000).markdown();
     let expected = ["crossing", "equal", "first", "second"].map(String::from);
-    let refusals = (1..=13).chain(21..=25).map(|number| number.to_string());
+    let refusals = (1..=4).chain(6..=13).chain(21..=25).chain(31..=33);
+    let refusals = refusals.map(|number| number.to_string());
     for row in expected.into_iter().chain(refusals).chain(pietras()) {
         let start = format!("| {row} | ");
         let line = table.lines().find(|line| line.starts_with(&start));
         let times = line.and_then(|line| line[start.len()..].split(' ').next()?.parse().ok());
         assert!(times.unwrap_or(0) >= 50, "{row}");
     }
+    assert!(!table.contains("\n| 5 | "), "R-2: 5 is never given again");
+}
+
+/// The rows of the tally that say how books were cut wrong, each with its usual answer.
+fn cuts() -> Vec<(String, &'static str)> {
+    let [start, end] = ["a table starts elsewhere", "a table runs past the end"];
+    let mut rows = vec![("bytes follow | last | none".to_string(), "33: ")];
+    for table in ["first", "middle", "last"] {
+        for (fault, other, number) in [(start, end, "31: "), (end, start, "32: ")] {
+            rows.push((format!("{fault} | {table} | none"), number));
+            rows.push((format!("{fault} | {table} | bytes follow"), number));
+            rows.push((format!("{fault} | {table} | {other}: same"), "31: "));
+            if table != "last" {
+                rows.push((format!("{fault} | {table} | {other}: later"), number));
+            }
+            rows.push((format!("bytes follow | last | {fault}: {table}"), number));
+        }
+    }
+    rows
+}
+
+/// As many calls as the gate has for a seed.
+#[test]
+fn a_run_cuts_books_wrong_in_every_way() {
+    for seed in [1, 2, 3] {
+        let tally = Tally::of_run(seed, 15_000).markdown();
+        for (row, number) in cuts() {
+            let start = format!("| {row} | ");
+            let line = tally.lines().find(|line| line.starts_with(&start));
+            let cells: Vec<&str> = line.map_or(vec![], |line| line.split(" | ").collect());
+            assert_eq!(cells.len(), 5, "seed {seed}: {row}");
+            let mut times = cells[3].split(", ").map(|times| times.parse().unwrap_or(0));
+            assert!(times.all(|times| times >= 3), "seed {seed}: {line:?}");
+            assert!(cells[4].contains(number), "seed {seed}: {line:?}");
+        }
+    }
+}
+
+#[test]
+fn books_cut_wrong_have_1_2_3_and_up_to_16_raters() {
+    let mut books = [0; 17];
+    for seed in 0..200 {
+        let script = Script::generate(seed, 100);
+        for (call, &scene) in script.calls.iter().zip(&script.scenes) {
+            if let (Call::Load { book, .. }, "book cut wrong") = (call, scene) {
+                books[usize::from(book[0])] += 1;
+            }
+        }
+    }
+    assert!(books[1..].iter().all(|&times| times > 0), "{books:?}");
+    let of_two_or_less: usize = books[..3].iter().sum();
+    assert!(3 * of_two_or_less < books.iter().sum(), "{books:?}");
 }

@@ -1,7 +1,7 @@
 //! Every refusal number of every call, and the cases in which the order of the checks decides.
 
 use reference::book;
-use reference::damage::WAYS;
+use reference::damage::{ways_from, LOAD_ORDER, WAYS};
 use reference::desk::Desk;
 use reference::draft::{Column, Draft};
 use reference::population::any_table;
@@ -45,6 +45,51 @@ fn every_damage_alone_leads_to_its_number() {
     }
 }
 
+/// As many as a scene has, and never a book that is too long for a script.
+#[test]
+fn damages_can_meet_in_one_book() {
+    for seed in 0..5_000 {
+        let mut random = Random::of_seed(seed);
+        let table = any_table(&mut random);
+        let mut draft = Draft::around(&mut random, &table);
+        for _ in 0..4 {
+            let (_, damage) = random.pick(&WAYS);
+            damage(&mut random, &mut draft);
+        }
+        assert!(draft.bytes.len() <= 65_535, "seed {seed}");
+        assert!(
+            book::read(&draft.bytes, draft.rater).is_err(),
+            "seed {seed}"
+        );
+    }
+}
+
+#[test]
+fn every_number_of_a_book_has_its_ways() {
+    let documents = [2, 3, 4, 6, 7, 8, 9, 10, 11, 31, 32, 33];
+    let mut numbers = LOAD_ORDER;
+    numbers.sort_unstable();
+    assert_eq!(numbers, documents);
+    for number in documents {
+        assert!(WAYS.iter().any(|way| way.0 == number), "{number}");
+    }
+    assert!(WAYS.iter().all(|way| documents.contains(&way.0)));
+}
+
+#[test]
+fn ways_are_taken_from_a_point_of_the_load_order_on() {
+    let numbers = |first| {
+        let mut numbers: Vec<u32> = ways_from(first).iter().map(|way| way.0).collect();
+        numbers.sort_unstable();
+        numbers.dedup();
+        numbers
+    };
+    assert_eq!(ways_from(2).len(), WAYS.len());
+    assert_eq!(numbers(3), [3, 4, 6, 7, 8, 9, 10, 11, 31, 32, 33]);
+    assert_eq!(numbers(31), [6, 7, 8, 9, 10, 11, 31, 32, 33]);
+    assert_eq!(numbers(8), [8, 9, 10, 11]);
+}
+
 #[test]
 fn load_tries_place_then_state_then_book() {
     let mut desk = desk_with(Some(&mixed()), None);
@@ -56,7 +101,7 @@ fn load_tries_place_then_state_then_book() {
     assert_eq!(desk.load(2, 0, &[1, 0, 5, 0, 0]), Err(3));
     assert_eq!(desk.load(2, 0, &[1, 0, 6, 0, 0, 0]), Err(4));
     assert_eq!(desk.load(2, 2, &[1, 0, 6, 0, 0, 0]), Err(4));
-    assert_eq!(desk.load(2, 1, &[1, 0, 6, 0, 6, 0]), Err(5));
+    assert_eq!(desk.load(2, 1, &[1, 0, 6, 0, 6, 0]), Err(32));
     assert_eq!(desk, desk_with(Some(&mixed()), None));
 }
 
@@ -76,10 +121,10 @@ fn layout_is_tried_table_by_table() {
     assert_eq!(read(&[(8, 41), (9, 2)]), Err(6));
     assert_eq!(read(&[(9, 2), (48, 0)]), Err(7));
     assert_eq!(read(&[(8, 40), (9, 2)]), Err(7));
-    assert_eq!(read(&[(8, 40), (48, 0)]), Err(5));
+    assert_eq!(read(&[(8, 40), (48, 0)]), Err(32));
     assert_eq!(read(&[(8, 0), (6, 0)]), Err(6));
-    assert_eq!(read(&[(6, 0), (48, 0)]), Err(5));
-    assert_eq!(read(&[(4, 9), (8, 0)]), Err(5));
+    assert_eq!(read(&[(6, 0), (48, 0)]), Err(31));
+    assert_eq!(read(&[(4, 9), (8, 0)]), Err(31));
     assert_eq!(read(&[(48, 0), (49, 9)]), Err(6));
     assert_eq!(read(&[(48, 2), (51, 1)]), Err(7));
     // Rows of the rater loaded come after the whole layout, rows of others not at all.

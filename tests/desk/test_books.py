@@ -26,7 +26,7 @@ LIMITS = (0, 1, 2, 999_999, 1_000_000, 1_000_001, 2 ** 31, 2 ** 32 - 1)
 NO_RATERS = (17, 2 ** 32 - 1, 2 ** 32 + 1, -1)
 BYTES = (0, 1, 2, 3, 16, 17, 40, 41, 128, 255)
 SMALL: Tables = [(0, [(5, 1, 7)]), (1, [(5, 1, 7), (0, 3, 1_000_000)])]
-IN_A_BOOK = {2, 3, 4, 5, 6, 7, 8, 9, 10, 11}
+IN_A_BOOK = {2, 3, 4, 6, 7, 8, 9, 10, 11, 31, 32, 33}
 
 
 def sound_rows(source: random.Random, kind: int) -> Rows:
@@ -137,15 +137,15 @@ class SameNumbers(unittest.TestCase):
         self.assertEqual(self.seen.keys(), IN_A_BOOK | {0}, self.seen)
 
     def test_two_faults_of_the_layout(self) -> None:
-        """The first in the order of the checks is answered: of two bytes, and of a byte in a book that ends early."""
+        """The first in the order of the checks is answered: of two bytes, and of a byte in a book that ends early or late."""
         source, book = random.Random(1), books.encoded(SMALL)
         for one in layout_bytes(SMALL):
             for other in layout_bytes(SMALL):
                 changed = bytearray(book)
                 changed[one], changed[other] = source.choice(BYTES), source.choice(BYTES)
                 self.see(bytes(changed), source.choice((0, 1, 2, 3)))
-            for length in range(max(one + 1, 4), len(book)):
-                changed = bytearray(with_true_length(book[:length]))
+            for length in range(max(one + 1, 4), len(book) + 3):
+                changed = bytearray(with_true_length((book + bytes(2))[:length]))
                 changed[one] = source.choice(BYTES)
                 self.see(bytes(changed), source.choice((0, 1, 2, 3)))
         self.assertLessEqual(IN_A_BOOK - {8, 9, 10, 11}, self.seen.keys())

@@ -114,7 +114,7 @@ class Refused(Case):
     BOOK = example('refusals.book')
 
     def test_no_defaults_no_survivors_other_totals(self) -> None:
-        tables = described(os.path.join(EXAMPLES, 'books.txt'))['refusals.book']
+        tables = described(os.path.join(EXAMPLES, 'books.txt'))['refusals.book'].tables
         for number, refusal in ((2, 23), (3, 24), (4, 25)):
             line, = self.refused(refusal, 'compare', self.BOOK, '1', str(number))
             for rater in (1, number):

@@ -92,12 +92,13 @@ class Books(Converting):
         self.not_taken('unpack', b'\2\0\7\0\6\0\0', 3, 'byte 7: the book ends here, within the offsets')
 
     def test_5_starts_ends_leftover(self) -> None:
-        self.not_taken('unpack', with_bytes(self.TWO, b4=9), 5, 'byte 4: rater 1 is said to start at byte 9; expected byte 8')
-        self.not_taken('unpack', with_bytes(self.TWO, b6=37), 5, 'byte 6: rater 2 is said to start at byte 37; expected byte 36')
-        self.not_taken('unpack', b'\1\0\6\0\6\0', 5, 'byte 6: the book ends here, within the table header of rater 1')
-        self.not_taken('unpack', b'\1\0\11\0\6\0\1\0\0', 5, 'byte 9: the book ends here, within the table header of rater 1')
-        self.not_taken('unpack', with_bytes(self.TWO, b36=2), 5, 'byte 52: the book ends here, within the 2 rows of rater 2')
-        self.not_taken('unpack', with_bytes(BOOK_K, b6=2), 5, 'byte 34: bytes that follow the last table: 12')
+        self.not_taken('unpack', with_bytes(self.TWO, b4=9), 31, 'byte 4: the table of rater 1 is said to start at byte 9; expected byte 8')
+        self.not_taken('unpack', with_bytes(self.TWO, b6=37), 31, 'byte 6: the table of rater 2 is said to start at byte 37; expected byte 36')
+        missing = 'the book ends here; the table of rater {} starts at byte {}, bytes missing from its {}'
+        self.not_taken('unpack', b'\1\0\6\0\6\0', 32, 'byte 6: ' + missing.format(1, 6, 'header: 4'))
+        self.not_taken('unpack', b'\1\0\11\0\6\0\1\0\0', 32, 'byte 9: ' + missing.format(1, 6, 'header: 1'))
+        self.not_taken('unpack', with_bytes(self.TWO, b36=2), 32, 'byte 52: ' + missing.format(2, 36, 'rows: 12'))
+        self.not_taken('unpack', with_bytes(BOOK_K, b6=2), 33, 'byte 34: the table of rater 1, the last, ends here; bytes that follow it: 12')
 
     def test_6_grades(self) -> None:
         self.not_taken('unpack', with_bytes(self.TWO, b8=0), 6, 'byte 8: rater 1 has 0 grades')
@@ -124,7 +125,7 @@ class Books(Converting):
     def test_the_order_is_that_of_load(self) -> None:
         self.not_taken('unpack', with_bytes(self.TWO, b8=0, b9=2, b6=0), 6)
         self.not_taken('unpack', with_bytes(self.TWO, b8=40, b9=2), 7)
-        self.not_taken('unpack', with_bytes(self.TWO, b4=9, b8=0), 5, 'byte 4')
+        self.not_taken('unpack', with_bytes(self.TWO, b4=9, b8=0), 31, 'byte 4')
         self.not_taken('unpack', with_bytes(self.TWO, b9=2, b6=0), 7)
         self.not_taken('unpack', with_bytes(self.TWO, b16=200, b37=2), 7)
         self.not_taken('unpack', book_of([('obligors', [(0, 1, 1000001)])]), 8)

@@ -17,10 +17,16 @@ from common import read  # noqa: E402
 from running import Case, ask, book_of, csv_text, example  # noqa: E402
 from converting import BOOK_K, Converting, OBLIGORS  # noqa: E402
 
-WORDS = {int(number): words for number, words in re.findall(r'^\| (\d+) \| (.*) \|$', read('docs', 'REFUSALS.md').decode(), re.M)}
+REFUSALS = read('docs', 'REFUSALS.md').decode()
+WORDS = {int(number): words for number, words in re.findall(r'^\| (\d+) \| (.*) \|$', REFUSALS, re.M)}
 UNREACHABLE = (1, 13, 21, 22)
-FROM_A_BOOK = {2: BOOK_K[:-1], 3: b'\x11' + BOOK_K[1:], 5: BOOK_K[:4] + b'\x07' + BOOK_K[5:], 6: BOOK_K[:6] + b'\x29' + BOOK_K[7:],
-               7: BOOK_K[:7] + b'\x02' + BOOK_K[8:]}
+FROM_A_BOOK = {2: BOOK_K[:-1], 3: b'\x11' + BOOK_K[1:], 6: BOOK_K[:6] + b'\x29' + BOOK_K[7:], 7: BOOK_K[:7] + b'\x02' + BOOK_K[8:],
+               31: BOOK_K[:4] + b'\x07' + BOOK_K[5:], 32: BOOK_K[:2] + b'\x2d' + BOOK_K[3:-1], 33: BOOK_K[:2] + b'\x2f' + BOOK_K[3:] + b'\0'}
+# What to look for in the examples that are cut wrong: number, and rater and byte.
+CUT_WRONG = {
+    'start': (31, 'byte 6: the table of rater 2 is said to start at byte 6; expected byte 36, where the table of rater 1 ends'),
+    'end': (32, 'byte 56: the book ends here; the table of rater 2 starts at byte 36, bytes missing from its rows: 8'),
+    'leftover': (33, 'byte 64: the table of rater 2, the last, ends here; bytes that follow it: 16, expected none')}
 ROWS = {8: (1, 2, 0), 9: (0, 0, 0), 10: (1, 0, 1_000_001), 11: (1_000_001, 0, 0)}
 FROM_CSV = {3: '\n', 6: OBLIGORS}
 TOGETHER = {23: ([(2, 0, 0)], [(2, 1, 0)]), 24: ([(2, 1, 0)], [(2, 2, 0)]), 25: ([(2, 1, 0)], [(3, 1, 0)])}
@@ -40,6 +46,15 @@ class Numbers(Converting):
             path = self.put('a.book', content)
             for words in (('show', path), ('show', path, '1'), ('compare', path), ('compare', path, path), ('unpack', path)):
                 self.seen(number, *words)
+
+    def test_where_a_book_is_cut_wrong(self) -> None:
+        for name, (number, where) in CUT_WRONG.items():
+            path = example(f'cut_wrong/{name}.book')
+            for words in (('show', path), ('show', path, '2'), ('compare', path), ('compare', example('h.book'), path, '1', '1'),
+                          ('unpack', path)):
+                self.seen(number, *words)
+                self.assertEqual(self.refused(number, *words), [f'desk: refused {number}: {WORDS[number]}; {path}: {where}'])
+            self.assertRegex(REFUSALS, rf'(?m)^\| `{name}.book` \| {number} \| .* \| {re.escape(where)} \|$')
 
     def test_of_a_rater(self) -> None:
         for word in ('0', '2', '17'):
@@ -91,6 +106,10 @@ class Words(Case):
     def test_of_what_is_no_number(self) -> None:
         for word in ('0', '14', '20', '26', '1.0', 'x', '', '\u0663', '9' * 30):
             self.assertIn('is no refusal number', self.wrong('refusals', word))
+
+    def test_of_the_number_before_R2(self) -> None:
+        for word in ('5', '05'):
+            self.assertIn('5 is never given since version 3: 31, 32 and 33', self.wrong('refusals', word))
 
 
 if __name__ == '__main__':

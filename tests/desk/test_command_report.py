@@ -65,6 +65,14 @@ class StandIn(Case):
                              ('1 0 1 0\ngini refused 23\n', f'refused 23: {MEANINGS[23]}; the Gini of {self.path("a.book")}')):
             self.assertEqual(self.reported(prints), (1, prints, f'desk: {said}\n'))
 
+    def test_a_refused_load_is_said_with_its_byte(self) -> None:
+        for name, number, byte in (('start', 31, 'byte 6: '), ('end', 32, 'byte 56: '), ('leftover', 33, 'byte 64: ')):
+            path = example(f'cut_wrong/{name}.book')
+            with unittest.mock.patch.object(main, 'printing_program', lambda: self.program(f'refused {number}\n')):
+                ran = ask('report', path)
+            self.assertEqual((ran.status, ran.out), (1, f'refused {number}\n'))
+            self.assertIn(f'desk: refused {number}: {MEANINGS[number]}; {path}: {byte}', ran.err)
+
     def test_a_program_that_fails_or_is_not_there(self) -> None:
         with unittest.mock.patch.object(main, 'printing_program', lambda: self.program('', 3)):
             self.assertIn('ended with status 3', self.wrong('report', example('k.book')))
@@ -100,9 +108,9 @@ class Program(Case):
 
     def test_books_that_are_refused(self) -> None:
         book = content_of(example('k.book'))
-        for content, number in ((b'', 2), (book[:-1], 2), (b'\0' + book[1:], 3), (book[:4] + b'\7' + book[5:], 5),
+        for content, number in ((b'', 2), (book[:-1], 2), (b'\0' + book[1:], 3), (book[:4] + b'\7' + book[5:], 31),
                                 (book[:6] + b'\0' + book[7:], 6), (book[:7] + b'\2' + book[8:], 7), (bytes(8192), 2), (bytes(8193), 2),
-                                (bytes(1 << 21), 2)):
+                                (bytes(1 << 21), 2), (book[:2] + b'\x2d' + book[3:-1], 32), (book[:2] + b'\x2f' + book[3:] + b'\0', 33)):
             outcome = report(self.put('a.book', content), PROGRAM)
             self.assertEqual((outcome.text, outcome.data['grades'], outcome.data['gini']), (f'refused {number}', [], None))
             self.assertEqual([each.number for each in outcome.refusals], [number])

@@ -141,7 +141,7 @@ class AllRaters(Showing):
 
     def test_refused_ones_among_them(self) -> None:
         path = example('refusals.book')
-        rows = [rows for _, rows in described(os.path.join(EXAMPLES, 'books.txt'))['refusals.book']]
+        rows = [rows for _, rows in described(os.path.join(EXAMPLES, 'books.txt'))['refusals.book'].tables]
         refusals = [None, 23, 24, None, 9, 8, 10, 11]
         scales = [Scale(f'rater {number}', path, number, 'obligors', [] if number > 4 else each) for number, each in enumerate(rows, 1)]
         self.glanced(path, scales, refusals)

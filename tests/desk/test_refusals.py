@@ -101,7 +101,7 @@ class Places(Case):
 
 
 class Loads(Case):
-    """2 to 11, each with a fault beside it that comes later in the order."""
+    """2 to 11 and 31 to 33, each with a fault beside it that comes later in the order."""
 
     def see(self, number: int, book: bytes, rater: int = 1, where: str = '') -> None:
         for place, other in ((1, (None, MIXED)), (2, (MIXED, None))):
@@ -129,11 +129,13 @@ class Loads(Case):
         for rater in NO_RATERS + (2,):
             self.load_refused(4, WatchedDesk(), 1, table, rater)
 
-    def test_5_start_and_header(self) -> None:
+    def test_31_start_and_32_header(self) -> None:
         for start in (0, 7, 9, 65535):
-            self.see(5, put(PAIR, (4, 'H', start), (8, 'B', 0)), 1, 'byte 4:')
+            self.see(31, put(PAIR, (4, 'H', start), (8, 'B', 0)), 1,
+                     f'byte 4: the table of rater 1 is said to start at byte {start}; expected byte 8, where the offsets end')
         for length in range(8, 12):
-            self.see(5, cut(length), 2, f'byte {length}:')
+            self.see(32, cut(length), 2, f'byte {length}: the book ends here; the table of rater 1 starts at byte 8, '
+                                         f'bytes missing from its header: {12 - length}')
 
     def test_6_grades(self) -> None:
         for grades in (0, 41, 255):
@@ -145,18 +147,25 @@ class Loads(Case):
             self.see(7, put(PAIR, (8, 'B', 40), (at, 'B', byte)), 2, f'byte {at}:')
         self.see(7, put(PAIR, (9, 'B', 2), (6, 'H', 0)), 1, 'byte 9:')  # table by table: before the start of the second
 
-    def test_5_rows(self) -> None:
+    def test_32_rows(self) -> None:
         for length in range(12, 24):
-            self.see(5, cut(length), 1, f'byte {length}:')
-        self.see(5, put(PAIR, (8, 'B', 40), (6, 'H', 0)), 1, f'byte {len(PAIR)}:')
+            self.see(32, cut(length), 1, f'byte {length}: the book ends here; the table of rater 1 starts at byte 8, '
+                                         f'bytes missing from its rows: {24 - length}')
+        self.see(32, put(PAIR, (8, 'B', 40), (6, 'H', 0)), 1, f'byte {len(PAIR)}:')
 
-    def test_5_of_the_second_table(self) -> None:
+    def test_31_and_32_of_the_second_table(self) -> None:
         for start in (0, 8, 23, 25):
-            self.see(5, put(PAIR, (6, 'H', start), (24, 'B', 0)), 1, 'byte 6:')
-        for length in (*range(24, 28), *range(28, 52)):
-            self.see(5, cut(length), 1, f'byte {length}:')
-        for over in (1, 12, 1000):  # bytes left over, before the rows
-            self.see(5, put(PAIR + bytes(over), (2, 'H', len(PAIR) + over), (16, 'I', 9)), 1, f'byte {len(PAIR)}:')
+            self.see(31, put(PAIR, (6, 'H', start), (24, 'B', 0)), 1,
+                     f'byte 6: the table of rater 2 is said to start at byte {start}; expected byte 24, where the table of rater 1 ends')
+        for length in range(24, 52):
+            part, end = ('header', 28) if length < 28 else ('rows', 52)
+            self.see(32, cut(length), 1, f'byte {length}: the book ends here; the table of rater 2 starts at byte 24, '
+                                         f'bytes missing from its {part}: {end - length}')
+
+    def test_33_leftover(self) -> None:
+        for over in (1, 12, 1000):  # before the rows
+            self.see(33, put(PAIR + bytes(over), (2, 'H', len(PAIR) + over), (16, 'I', 9)), 1,
+                     f'byte {len(PAIR)}: the table of rater 2, the last, ends here; bytes that follow it: {over}, expected none')
 
     def test_8_defaults(self) -> None:
         for obligors, defaults in ((5, 6), (0, 1), (5, 2 ** 32 - 1), (1_000_001, 1_000_002)):

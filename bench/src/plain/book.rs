@@ -36,10 +36,10 @@ fn check_layout(book: &[u8], raters: usize) -> Result<(), Refusal> {
     let mut rest = &book[4 + 2 * raters..];
     for start in book[4..4 + 2 * raters].chunks_exact(2) {
         if two(start, 0) != book.len() - rest.len() {
-            return Err(5);
+            return Err(31);
         }
         let Some((&[grades, kind, ref zeros @ ..], rows)) = rest.split_first_chunk::<4>() else {
-            return Err(5);
+            return Err(32);
         };
         if !(1..=GRADES as u8).contains(&grades) {
             return Err(6);
@@ -47,12 +47,12 @@ fn check_layout(book: &[u8], raters: usize) -> Result<(), Refusal> {
         if kind > 1 || zeros != &[0; 2] {
             return Err(7);
         }
-        rest = rows.get(12 * usize::from(grades)..).ok_or(5u32)?;
+        rest = rows.get(12 * usize::from(grades)..).ok_or(32u32)?;
     }
     if rest.is_empty() {
         Ok(())
     } else {
-        Err(5)
+        Err(33)
     }
 }
 

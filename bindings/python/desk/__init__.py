@@ -20,7 +20,7 @@
 
 A table says by name whether its first column counts obligors (the defaulted included) or survivors (the defaulted left out). Columns
 may come from any sequence of whole numbers, those of a data frame among them. A desk has two places; each call is accepted, or raises
-Refused with document 01's number and changes nothing. What the calls answer is proved; this module only hands it on.
+Refused with its number and changes nothing. What the calls answer is proved; this module only hands it on.
 """
 from .answers import Cutoff, Kind, Measures, PooledGrade, Price, Spread, Verdict, WrittenFraction
 from .book import read_book, write_book

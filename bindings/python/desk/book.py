@@ -58,17 +58,19 @@ def read_book(book: bytes) -> list[Table]:
 
 
 def tables_in(book: bytes) -> list[TableInBook]:
-    """The tables of a book, whose rows are not checked; or the first of 2, 3, 5, 6, 7 in the order of load."""
+    """The tables of a book, whose rows are not checked; or the first of 2, 3, 31, 32, 6, 7, 33 in the order of load."""
     tables, end = [], HEAD + OFFSET * raters_in(book)
     for at in range(HEAD, end, OFFSET):
         start, = struct.unpack_from('<H', book, at)
         if start != end:
-            raise Refused(5, f'byte {at}: rater {len(tables) + 1} is said to start at byte {start}; expected byte {end}, '
-                             'where the bytes before it end')
+            last = f'the table of rater {len(tables)} ends' if tables else 'the offsets end'
+            raise Refused(31, f'byte {at}: the table of rater {len(tables) + 1} is said to start at byte {start}; '
+                              f'expected byte {end}, where {last}')
         tables.append(table_at(book, start, len(tables) + 1))
         end = start + TABLE_HEAD + ROW.size * len(tables[-1].rows)
     if end != len(book):
-        raise Refused(5, f'byte {end}: bytes that follow the last table: {len(book) - end}; expected none')
+        raise Refused(33, f'byte {end}: the table of rater {len(tables)}, the last, ends here; '
+                          f'bytes that follow it: {len(book) - end}, expected none')
     return tables
 
 
@@ -87,9 +89,8 @@ def raters_in(book: bytes) -> int:
 
 
 def table_at(book: bytes, start: int, rater: int) -> TableInBook:
-    """The table at a byte, or 5 (header), 6, 7, 5 (rows)."""
-    if start + TABLE_HEAD > len(book):
-        raise Refused(5, f'byte {len(book)}: the book ends here, within the table header of rater {rater}')
+    """The table at a byte, or 32 (header), 6, 7, 32 (rows)."""
+    end_within(book, start, rater, 'header', start + TABLE_HEAD)
     grades, kind, zeros = struct.unpack_from('<BBH', book, start)
     if not 1 <= grades <= MAX_GRADES:
         raise Refused(6, f'byte {start}: rater {rater} has {grades} grades; a table has 1 to {MAX_GRADES}')
@@ -100,9 +101,15 @@ def table_at(book: bytes, start: int, rater: int) -> TableInBook:
         raise Refused(7, f'byte {at}: rater {rater} has {book[at]} here; expected a zero byte')
     rows = start + TABLE_HEAD
     end = rows + ROW.size * grades
-    if end > len(book):
-        raise Refused(5, f'byte {len(book)}: the book ends here, within the {grades} rows of rater {rater}')
+    end_within(book, start, rater, 'rows', end)
     return TableInBook(rows, COUNTS[kind], list(ROW.iter_unpack(book[rows:end])))
+
+
+def end_within(book: bytes, start: int, rater: int, part: str, end: int) -> None:
+    """32, where a part of the table at a byte runs past the end of the book."""
+    if end > len(book):
+        raise Refused(32, f'byte {len(book)}: the book ends here; the table of rater {rater} starts at byte {start}, '
+                          f'bytes missing from its {part}: {end - len(book)}')
 
 
 def row_refusals(tables: Sequence[TableInBook], rater: int) -> Iterator[Refused]:

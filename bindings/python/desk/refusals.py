@@ -1,4 +1,4 @@
-"""The refusals of document 01: a call is accepted, or refused with one of these numbers and changes nothing."""
+"""The refusals of documents 01 and 02: a call is accepted, or refused with one of these numbers and changes nothing."""
 from __future__ import annotations
 
 # What each number means, as docs/REFUSALS.md has it.
@@ -7,7 +7,6 @@ MEANINGS = {
     2: 'book under 4 bytes, or its stated length is not the length lent',
     3: 'R outside 1 to 16, or the book ends within the offsets (R: number of raters)',
     4: 'rater outside 1 to R (R: number of raters)',
-    5: 'a table does not start where the one before ended, runs past the end, or bytes follow the last',
     6: 'grade count outside 1 to 40',
     7: 'kind above 1, or the two bytes after it not zero',
     8: 'defaults above obligors (kind 0)',
@@ -21,11 +20,14 @@ MEANINGS = {
     23: 'no defaults',
     24: 'no survivors',
     25: 'D or S differ between the places (D: defaults, S: survivors)',
+    31: 'a table starts elsewhere than where the last one ended',
+    32: 'a table runs past the end, in header or rows',
+    33: 'bytes after the last table',
 }
 
 
 class Refused(Exception):
-    """A call or a table that is refused: document 01's number, its meaning, and where the fault stands if that is known."""
+    """A call or a table that is refused: its number, the meaning, and where the fault stands if that is known."""
 
     def __init__(self, number: int, where: str | None = None):
         self.number = number

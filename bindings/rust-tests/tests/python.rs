@@ -1,6 +1,6 @@
 //! The answers print as those of the Python module do.
 
-use desk::{Fraction, Measures, PooledGrade, Price, Refusal, Verdict};
+use desk::{Cut, Fraction, Measures, PooledGrade, Price, Refusal, Table, Verdict};
 use reference::random::Random;
 use std::fmt::Display;
 use std::process::Command;
@@ -9,10 +9,17 @@ use std::process::Command;
 fn printed(expressions: &[String]) -> Vec<String> {
     let program = "import struct, sys
 from desk.answers import *
+from desk.book import tables_in
 from desk.refusals import Refused
 
 def bits(fraction):
     return struct.unpack('<Q', struct.pack('<d', float(fraction)))[0]
+
+def refused(book):
+    try:
+        tables_in(book)
+    except Refused as refused:
+        return refused
 
 for line in sys.argv[1].split('\\n'):
     print(eval(line))";
@@ -132,4 +139,42 @@ fn measures_and_pooled_grades() {
         case(format!("Measures(3, 4, {fractions}, 5)"), measures),
         case("PooledGrade(3, 20, 11)".to_string(), pooled),
     ]);
+}
+
+/// A short book, cut wrong in many ways: a byte of its layout changed, or its length.
+fn cut_books() -> Vec<Vec<u8>> {
+    let tables = [(); 3].map(|()| Table::by_obligors().grade(5, 2, 400_000));
+    let book = Table::book(&tables).expect("valid tables");
+    let mut books = Vec::new();
+    for length in 4..book.len() + 20 {
+        let mut other = book.clone();
+        other.resize(length, 0);
+        other[2] = u8::try_from(length).expect("a short book");
+        books.push(other);
+    }
+    for byte in [4, 5, 6, 7, 8, 9, 10, 26, 42] {
+        for number in (0..30).chain([42, 255]) {
+            let mut other = book.clone();
+            other[byte] = number;
+            books.push(other);
+        }
+    }
+    books
+}
+
+#[test]
+fn cuts() {
+    let mut cases = Vec::new();
+    for book in cut_books() {
+        if let Some(cut) = Cut::find(&book) {
+            let words = format!("{}; {cut}", cut.refusal());
+            cases.push(case(format!("refused(bytes({book:?}))"), words));
+        }
+    }
+    for number in [31, 32, 33] {
+        let refused = format!("refused {number}: ");
+        let count = cases.iter().filter(|case| case.1.starts_with(&refused));
+        assert!(count.count() > 10, "{number}");
+    }
+    prints_alike(&cases);
 }

@@ -1,6 +1,6 @@
 //! compare BOOK BOOK [RATER RATER]: says which of two rating scales over the same obligors is better.
 
-use desk::{Desk, Place, Price, Verdict};
+use desk::{Cut, Desk, Place, Price, Refusal, Verdict};
 use std::error::Error;
 use std::process::ExitCode;
 
@@ -8,7 +8,15 @@ fn load(desk: &mut Desk, place: Place, path: &str, rater: &str) -> Result<(), Bo
     let book = std::fs::read(path).map_err(|error| format!("{path}: {error}"))?;
     let rater = rater.parse().unwrap_or(0); // which load refuses
     let loaded = desk.load(place, &book, rater);
-    Ok(loaded.map_err(|refusal| format!("{path}: {refusal}"))?)
+    Ok(loaded.map_err(|refusal| format!("{path}: {}", in_words(refusal, &book)))?)
+}
+
+/// Why a book was refused, and where it is cut wrong if that is why.
+fn in_words(refusal: Refusal, book: &[u8]) -> String {
+    match Cut::find(book).filter(|cut| cut.refusal() == refusal) {
+        Some(cut) => format!("{refusal}; {cut}"),
+        None => refusal.to_string(),
+    }
 }
 
 fn say_costs(desk: &Desk, price: Price) -> Result<(), Box<dyn Error>> {

@@ -50,11 +50,12 @@ impl Desk {
     /// # Errors
     ///
     /// 21 ([`Refusal::Loaded`]), 2 ([`Refusal::Length`]), 3 ([`Refusal::Raters`]),
-    /// 4 ([`Refusal::Rater`]); then table by table 5 ([`Refusal::Layout`]) of its start and header,
-    /// 6 ([`Refusal::Grades`]), 7 ([`Refusal::Kind`]), 5 ([`Refusal::Layout`]) of its rows; then
-    /// 5 ([`Refusal::Layout`]) of bytes left over; then row by row of this rater
-    /// 8 ([`Refusal::Defaults`]), 9 ([`Refusal::NoObligors`]), 10 ([`Refusal::Announced`]); then
-    /// 11 ([`Refusal::Obligors`]).
+    /// 4 ([`Refusal::Rater`]); then table by table 31 ([`Refusal::TableStart`]),
+    /// 32 ([`Refusal::TableEnd`]) of its header, 6 ([`Refusal::Grades`]), 7 ([`Refusal::Kind`]),
+    /// 32 ([`Refusal::TableEnd`]) of its rows; then 33 ([`Refusal::Leftover`]); then row by row of
+    /// this rater 8 ([`Refusal::Defaults`]), 9 ([`Refusal::NoObligors`]),
+    /// 10 ([`Refusal::Announced`]); then 11 ([`Refusal::Obligors`]). Where a table is not in its
+    /// place, or bytes follow the last, [`Cut::find`](crate::Cut::find) says at which table and byte.
     pub fn load(&mut self, place: Place, book: &[u8], rater: u32) -> Result<(), Refusal> {
         accepted(sys::load(self, place.into(), book, rater))
     }

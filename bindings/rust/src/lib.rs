@@ -24,11 +24,13 @@
 //! ```
 //!
 //! A call is accepted, or refused with a [`Refusal`], which leaves the desk and every buffer as
-//! they were. No call on a desk has state of its own, and none allocates, save those that return a
-//! `Vec` or take a [`Table`]. Every answer prints in words or numbers; a width and an alignment are
-//! honoured, and a precision is the number of decimal places.
+//! they were; of a book that is cut wrong, [`Cut`] says at which table and byte. No call on a desk
+//! has state of its own, and none allocates, save those that return a `Vec` or take a [`Table`].
+//! Every answer prints in words or numbers; a width and an alignment are honoured, and a precision
+//! is the number of decimal places.
 
 mod answer;
+mod cut;
 mod desk;
 mod fraction;
 mod place;
@@ -40,6 +42,7 @@ mod verdict;
 mod version;
 
 pub use answer::{Cutoff, Grade, Measures, PooledGrade, Price, Spread};
+pub use cut::Cut;
 pub use fraction::Fraction;
 pub use place::Place;
 pub use refusal::{Refusal, UnknownNumber};

@@ -67,7 +67,6 @@ refusals! {
     Length = 2, "book under 4 bytes, or its stated length is not the length lent";
     Raters = 3, "R outside 1 to 16, or the book ends within the offsets (R: number of raters)";
     Rater = 4, "rater outside 1 to R (R: number of raters)";
-    Layout = 5, "a table does not start where the one before ended, runs past the end, or bytes follow the last";
     Grades = 6, "grade count outside 1 to 40";
     Kind = 7, "kind above 1, or the two bytes after it not zero";
     Defaults = 8, "defaults above obligors (kind 0)";
@@ -81,6 +80,9 @@ refusals! {
     NoDefaults = 23, "no defaults";
     NoSurvivors = 24, "no survivors";
     Unlike = 25, "D or S differ between the places (D: defaults, S: survivors)";
+    TableStart = 31, "a table starts elsewhere than where the last one ended";
+    TableEnd = 32, "a table runs past the end, in header or rows";
+    Leftover = 33, "bytes after the last table";
 }
 
 impl Refusal {

@@ -248,7 +248,8 @@ unsafe extern "C" {
     pub safe fn spread(desk: &Desk, place: u32, answer: &mut Spread) -> u32;
 }
 
-/// Fills an empty place with the table of a rater of a book. Refuses 1, 21, 2 to 11.
+/// Fills an empty place with the table of a rater of a book. Refuses 1, 21, 2, 3, 4; table by
+/// table 31, 32, 6, 7, 32; 33; of the rater's rows 8, 9, 10; 11.
 ///
 /// ```
 /// use desk::{sys, Desk, Table};

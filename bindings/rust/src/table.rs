@@ -186,9 +186,9 @@ pub(crate) fn bytes(tables: &[Table]) -> Vec<u8> {
 }
 
 /// Bytes before the offsets.
-const HEAD: usize = 4;
+pub(crate) const HEAD: usize = 4;
 /// Bytes that say where a table starts.
-const OFFSET: usize = 2;
+pub(crate) const OFFSET: usize = 2;
 
 /// The low byte first; the largest number for one that two bytes do not hold, which no book needs.
 fn two_bytes(number: usize) -> [u8; 2] {

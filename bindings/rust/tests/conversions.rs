@@ -27,8 +27,18 @@ fn refusals_have_their_numbers_and_no_others() {
         numbers()
             .filter(|&number| Refusal::try_from(number).is_ok())
             .count(),
-        18
+        20
     );
+}
+
+/// Document 02 has three numbers for what document 01 gave 5 for.
+#[test]
+fn number_5_is_never_given() {
+    let unknown = Refusal::try_from(5).expect_err("no call answers 5");
+    assert_eq!(unknown.number(), 5);
+    let layout = [31, 32, 33].map(Refusal::try_from);
+    let expected = [Refusal::TableStart, Refusal::TableEnd, Refusal::Leftover];
+    assert_eq!(layout, expected.map(Ok));
 }
 
 #[test]

@@ -159,8 +159,8 @@ fn every_struct() {
     for declared in header.split("typedef struct ").skip(1) {
         let (name, behind) = declared.split_once(" { ").expect(declared);
         let (body, _) = behind.split_once('}').expect(declared);
-        if ["DeskRow", "DeskBook"].contains(&name) {
-            continue; // a table in memory is another thing here
+        if ["DeskRow", "DeskBook", "DeskCut"].contains(&name) {
+            continue; // a table in memory and a cut are other things here
         }
         let here = format!(
             "struct {} {{ {} }}",

@@ -1,7 +1,7 @@
 //! What prints: the same texts as in Python's module.
 
 use desk::{
-    Cutoff, Fraction, Grade, Measures, Place, PooledGrade, Price, Refusal, Spread, Verdict,
+    Cut, Cutoff, Fraction, Grade, Measures, Place, PooledGrade, Price, Refusal, Spread, Verdict,
 };
 
 fn fraction(numerator: i64, denominator: i64) -> Fraction {
@@ -86,6 +86,15 @@ fn a_width_pads_and_nothing_is_cut() {
         format!("[{:-<24}]", Refusal::Empty),
         "[refused 22: place empty-]"
     );
+    let cut = Cut::Leftover {
+        rater: 2,
+        end: 52,
+        bytes: 1,
+    };
+    let words = "byte 52: the table of rater 2, the last, ends here; bytes that follow it: 1, expected none";
+    assert_eq!(format!("[{cut:>94.2}]"), format!("[    {words}]"));
+    assert_eq!(format!("[{cut:.<91}]"), format!("[{words}.]"));
+    assert_eq!(format!("[{cut:5}]"), format!("[{words}]"));
 }
 
 #[test]

@@ -68,5 +68,5 @@ fn every_page_is_named_by_its_places() {
             count += 1;
         }
     }
-    assert_eq!(count, 4);
+    assert_eq!(count, 5);
 }

@@ -38,12 +38,14 @@ fn refusals_are_those_of_the_header() {
 }
 
 #[test]
-fn numbers_are_those_of_document_01() {
+fn numbers_are_those_of_documents_01_and_02() {
     let numbers: Vec<u32> = Refusal::ALL
         .iter()
         .map(|refusal| refusal.number())
         .collect();
-    assert_eq!(numbers, (1..=13).chain(21..=25).collect::<Vec<u32>>());
+    let inputs = (1..=4).chain(6..=13); // R-2 gives 31 to 33 for 5
+    let expected = inputs.chain(21..=25).chain(31..=33);
+    assert_eq!(numbers, expected.collect::<Vec<u32>>());
 }
 
 #[test]

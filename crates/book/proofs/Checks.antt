@@ -3,6 +3,7 @@ use Prim.Native.Nat.{ℕ, zero, suc, _≤_, _<_}
 use mathlib.Core.Path.{_≡_, refl, sym, _∙_}
 use mathlib.Core.Bool.{Bool, true, false, cond}
 use mathlib.Core.List.{List, [], _∷_}
+use native.Mathlib.Decide.{decLe, ℕ-discrete}
 use native.Mathlib.Omega.{arith}
 use borrow.Author.Tests.{le-leb, lt-leb, eq-eqb, ne-eqb, leb-true, eqb-true}
 use lib.Dec.{leb, eqb}
@@ -23,6 +24,17 @@ found (pass h f) = rw (le-leb _ _ h) (found f)
 found (same h f) = rw (eq-eqb _ _ h) (found f)
 found (over h) = rw (lt-leb _ _ h)
 found (other h) = rw (ne-eqb _ _ h)
+
+-- there is always a way
+pub finds : (l : List Check) → Finds l (fault l)
+unfolding fault
+finds [] = none
+finds (at-most a b n ∷ l) =
+    elim (decLe a b) [
+      | yes h ↦ rw (le-leb a b h) (pass h (finds l))
+      | no h ↦ let less : b < a = omega arith in rw (lt-leb a b less) (over less)
+    ]
+finds (equal a b n ∷ l) = elim (ℕ-discrete a b) [ yes h ↦ rw (eq-eqb a b h) (same h (finds l)) | no h ↦ rw (ne-eqb a b h) (other h) ]
 
 -- every check that has a number holds
 abbrev pub Holds : List Check → Type 0

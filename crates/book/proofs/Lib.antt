@@ -1,4 +1,5 @@
 pub mod Checks
+pub mod Numbers
 pub mod Rows
 pub mod Columns
 pub mod Stands
@@ -10,3 +11,4 @@ pub mod Books
 pub mod Back
 pub mod RoundTrip
 pub mod Again
+pub mod Cuts

@@ -6,15 +6,17 @@ use lib.ListN.{length}
 use Rattle.book.specs.Bytes.{byteAt, twoAt}
 use Rattle.book.specs.Checks.{Check, at-most, equal, fault, firstFault}
 
--- The three faults of number 5: a table does not start where the one before ended, runs past the end, or bytes follow the last.
+-- Where a book is cut wrong (R-2). "A table that starts elsewhere than where the last one ended now gives 31."
 abbrev pub startFault : ℕ
-startFault = 5
+startFault = 31
 
+-- "A table that runs past the end, in header or rows, gives 32."
 abbrev pub endFault : ℕ
-endFault = 5
+endFault = 32
 
+-- "Bytes after the last table give 33."
 abbrev pub leftoverFault : ℕ
-leftoverFault = 5
+leftoverFault = 33
 
 -- the number of raters R
 abbrev pub raters : List ℕ → ℕ

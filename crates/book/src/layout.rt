@@ -82,10 +82,11 @@ fn table_fault(b: &[u8], j: usize, at: usize) -> u32
     if two_at(b, at + 2) != 0 {
         return COLUMN_KIND;
     }
-    if b.len() < at + TABLE_HEAD + ROW * grades {
-        return TABLE_END;
+    if at + TABLE_HEAD + ROW * grades <= b.len() {
+        0
+    } else {
+        TABLE_END
     }
-    0
 }
 
 // All tables, and that nothing follows them.

@@ -2,18 +2,19 @@
 use Prim.Native.Nat.{ℕ, zero, suc}
 use mathlib.Core.Path.{_≡_}
 use mathlib.Core.Logic.{_⊎_, inl, inr}
-use mathlib.Core.Bool.{Bool, true, false, _&&_, _||_}
+use mathlib.Core.Bool.{Bool, true, false, _||_}
 use mathlib.Core.List.{List, [], _∷_}
-use lib.Dec.{T, eqb, leb, eqb→eq}
+use lib.Dec.{T, eqb, eqb→eq}
 use Rattle.table.specs.Table.{Table}
 use Rattle.table.proofs.Test.{by-test}
 use Rattle.table.specs.Place.{tableOf}
 use Rattle.table.specs.declared.Place.{Place}
-use Rattle.book.specs.Checks.{Check, at-most, equal, fault, firstFault}
+use Rattle.book.specs.Checks.{Check, at-most, fault, firstFault}
 use Rattle.book.specs.Layout.{headChecks, raterChecks, tableChecks, tablesFaultFrom, firstStart, raters, endOf}
 use Rattle.book.specs.Rows.{rowChecks, rowsFault, totalChecks, tableFault, tableOfRater}
 use Rattle.book.specs.Reading.{readFault}
 use Rattle.book.specs.Writing.{writeFault}
+use Rattle.book.proofs.Numbers.{allPass, fault-passes, first-passes, rows-pass}
 use Rattle.calls.specs.Calls.{Question, cheapest, measures, brier, spread, questionChecks, questionFault, Filling, pool, fillSize, fillFault, Change, load, clear, changeFault, emptyFault, pairChecks, compareFault}
 use Rattle.desk.specs.declared.Desk.{Desk}
 use Rattle.desk.specs.Desk.{placeAt}
@@ -38,32 +39,17 @@ one-of (m ∷ l) n h = either (eqb n m) (among l n) (λ e. inl (eqb→eq n m e))
 
 -- 0, or one of the refusal numbers ns.
 module _ (ns : List ℕ) where
+  abbrev isKnown : ℕ → Bool
+  isKnown n = among (0 ∷ ns) n
+
   abbrev Known : ℕ → Type 0
-  Known n = T (among (0 ∷ ns) n)
+  Known n = T (isKnown n)
 
-  unfoldable allKnown : List Check → Bool
-  allKnown [] = true
-  allKnown (at-most a b n ∷ l) = among (0 ∷ ns) n && allKnown l
-  allKnown (equal a b n ∷ l) = among (0 ∷ ns) n && allKnown l
-
-  both : (x y : Bool) → T (x && y) → T x × T y
-  both true y h = (tt, h)
-  both false y h = absurd h
-
-  known-fault : (l : List Check) → T (allKnown l) → Known (fault l)
-  unfolding fault allKnown among
-  known-fault [] h = tt
-  known-fault (at-most a b n ∷ l) h =
-      let k = both (among (0 ∷ ns) n) (allKnown l) h in
-      by-test Known (leb a b) (λ _. known-fault l (k .1)) (λ _. k .0)
-  known-fault (equal a b n ∷ l) h =
-      let k = both (among (0 ∷ ns) n) (allKnown l) h in
-      by-test Known (eqb a b) (λ _. known-fault l (k .1)) (λ _. k .0)
+  known-fault : (l : List Check) → T (allPass isKnown l) → Known (fault l)
+  known-fault = fault-passes isKnown
 
   known-first : (n m : ℕ) → Known n → Known m → Known (firstFault n m)
-  unfolding firstFault
-  known-first zero m h k = k
-  known-first (suc n) m h k = h
+  known-first = first-passes isKnown
 
 -- Reading a book.
 module _ (b : List ℕ) (j : ℕ) where
@@ -71,17 +57,16 @@ module _ (b : List ℕ) (j : ℕ) where
   readNumbers = 1 ∷ changeNumbers (load b j)
 
   known-tables : (k i at : ℕ) → Known readNumbers (tablesFaultFrom b k i at)
-  unfolding tablesFaultFrom tableChecks among allKnown
+  unfolding tablesFaultFrom tableChecks among allPass
   known-tables zero i at = known-fault readNumbers _ tt
   known-tables (suc k) i at = known-first readNumbers _ _ (known-fault readNumbers (tableChecks b i at) tt) (known-tables k (suc i) (endOf b at))
 
   known-rows : (t : Table) → Known readNumbers (rowsFault t)
-  unfolding rowsFault rowChecks among allKnown
-  known-rows [] = tt
-  known-rows (g ∷ t) = known-first readNumbers _ _ (known-fault readNumbers (rowChecks g) tt) (known-rows t)
+  unfolding rowChecks among allPass
+  known-rows = rows-pass (isKnown readNumbers) tt (λ g. tt)
 
   known-read : Known readNumbers (readFault b j)
-  unfolding readFault headChecks raterChecks tableFault totalChecks among allKnown
+  unfolding readFault headChecks raterChecks tableFault totalChecks among allPass
   known-read =
       known-first readNumbers _ _
       (known-fault readNumbers (headChecks b) tt)
@@ -98,18 +83,18 @@ unfolding among
 known-empty ns p = by-test (Known (1 ∷ 22 ∷ ns)) (p .loaded) (λ _. tt) (λ _. tt)
 
 -- 22, and then further checks
-known-then : (ns : List ℕ) (p : Place) (l : List Check) → T (allKnown (1 ∷ 22 ∷ ns) l) → Known (1 ∷ 22 ∷ ns) (firstFault (emptyFault p) (fault l))
+known-then : (ns : List ℕ) (p : Place) (l : List Check) → T (allPass (isKnown (1 ∷ 22 ∷ ns)) l) → Known (1 ∷ 22 ∷ ns) (firstFault (emptyFault p) (fault l))
 known-then ns p l h = known-first (1 ∷ 22 ∷ ns) _ _ (known-empty ns p) (known-fault (1 ∷ 22 ∷ ns) l h)
 
 known-question : (p : Place) (q : Question) → Known (1 ∷ questionNumbers q) (questionFault p q)
-unfolding questionFault among allKnown
+unfolding questionFault among allPass
 known-question p (cheapest u v) = known-then (12 ∷ []) p (questionChecks (tableOf p) (cheapest u v)) tt
 known-question p measures = known-then (23 ∷ 24 ∷ []) p (questionChecks (tableOf p) measures) tt
 known-question p brier = known-then [] p [] tt
 known-question p spread = known-then [] p [] tt
 
 known-fill : (p : Place) (f : Filling) (n : ℕ) → Known (1 ∷ fillNumbers f) (fillFault p f n)
-unfolding fillFault among allKnown
+unfolding fillFault among allPass
 known-fill p pool n = known-then (13 ∷ []) p (at-most (fillSize (tableOf p) pool) n 13 ∷ []) tt
 
 known-change : (p : Place) (c : Change) → Known (1 ∷ changeNumbers c) (changeFault p c)
@@ -123,11 +108,11 @@ known-change p clear = known-empty [] p
 -- and of the desk: 1 before them
 
 known-place : (ns : List ℕ) (i n : ℕ) → Known (1 ∷ ns) n → Known (1 ∷ ns) (firstFault (placeFault i) n)
-unfolding among allKnown
+unfolding among allPass
 known-place ns i n k = known-first (1 ∷ ns) _ _ (known-fault (1 ∷ ns) _ tt) k
 
 known : (d : Desk) (c : Call) → Known (numbers c) (numberOf d c)
-unfolding compareFault pairChecks writeFault among allKnown
+unfolding compareFault pairChecks writeFault among allPass
 known d (ask i q) = known-place (questionNumbers q) i _ (known-question (placeAt d i) q)
 known d compare =
     let ns = numbers compare in
@@ -140,3 +125,15 @@ known d (change i c) = known-place (changeNumbers c) i _ (known-change (placeAt 
 
 pub answered : (d : Desk) (c : Call) → (numberOf d c ≡ 0) ⊎ OneOf (numberOf d c) (numbers c)
 answered d c = one-of (0 ∷ numbers c) (numberOf d c) (known d c)
+
+pub never-five : (d : Desk) (c : Call) → numberOf d c ≡ 5 → ⊥
+unfolding among
+never-five d (ask i (cheapest u v)) e = rw e at (known d (ask i (cheapest u v)))
+never-five d (ask i measures) e = rw e at (known d (ask i measures))
+never-five d (ask i brier) e = rw e at (known d (ask i brier))
+never-five d (ask i spread) e = rw e at (known d (ask i spread))
+never-five d compare e = rw e at (known d compare)
+never-five d (fill i pool out) e = rw e at (known d (fill i pool out))
+never-five d (write out) e = rw e at (known d (write out))
+never-five d (change i (load b j)) e = rw e at (known d (change i (load b j)))
+never-five d (change i clear) e = rw e at (known d (change i clear))

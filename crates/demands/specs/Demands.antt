@@ -50,6 +50,10 @@ OneOf n (m ∷ l) = (n ≡ m) ⊎ OneOf n l
 abbrev pub EveryCallIsAnswered : Type 0
 EveryCallIsAnswered = (d : Desk) (c : Call) → (numberOf d c ≡ 0) ⊎ OneOf (numberOf d c) (numbers c)
 
+-- R-2: "5 is never given again."
+abbrev pub FiveIsNeverGiven : Type 0
+FiveIsNeverGiven = (d : Desk) (c : Call) → numberOf d c ≡ 5 → ⊥
+
 -- "22: place empty": an accepted question is of a table, and of one as document 01 says.
 abbrev pub QuestionsAreOfTables : Type 0
 QuestionsAreOfTables = (d : Desk) → SoundDesk d → (i : ℕ) (q : Question) → numberOf d (ask i q) ≡ 0 → Sound (tableAt d i)
@@ -141,6 +145,7 @@ pub record Demands : Type 0 where
   pub places-hold-what-was-loaded : PlacesHoldWhatWasLoaded
   pub every-held-table-is-sound : EveryHeldTableIsSound
   pub every-call-is-answered : EveryCallIsAnswered
+  pub five-is-never-given : FiveIsNeverGiven
   pub questions-are-of-tables : QuestionsAreOfTables
   pub refusals-change-nothing : RefusalsChangeNothing
   pub only-what-is-written-changes : OnlyWhatIsWrittenChanges

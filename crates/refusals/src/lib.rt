@@ -1,4 +1,4 @@
-// The numbers that calls are refused with, in document 01's words.
+// The numbers that calls are refused with, in the words of documents 01 and 02. Number 5 of document 01 is never given: R-2 has 31, 32 and 33 for it.
 
 // From the input.
 
@@ -13,15 +13,6 @@ pub const RATER_COUNT: u32 = 3;
 
 // Rater outside 1 to R.
 pub const NO_RATER: u32 = 4;
-
-// A table does not start where the one before ended,
-pub const TABLE_START: u32 = 5;
-
-// runs past the end,
-pub const TABLE_END: u32 = 5;
-
-// or bytes follow the last.
-pub const LEFTOVER: u32 = 5;
 
 // Grade count outside 1 to 40.
 pub const GRADE_COUNT: u32 = 6;
@@ -63,3 +54,14 @@ pub const NO_SURVIVORS: u32 = 24;
 
 // D or S differ between the places.
 pub const UNEQUAL_TOTALS: u32 = 25;
+
+// Where a book is cut wrong (R-2).
+
+// A table starts elsewhere than where the last one ended.
+pub const TABLE_START: u32 = 31;
+
+// A table runs past the end, in header or rows.
+pub const TABLE_END: u32 = 32;
+
+// Bytes after the last table.
+pub const LEFTOVER: u32 = 33;

@@ -41,7 +41,7 @@ A CSV table has a header and a line for each grade, best grade first. The header
 (everybody in the grade, the defaulted included) or survivors (the defaulted left out), then defaults and announced (the announced
 default rate in ppm).
 
-exit status: 0 answered; 1 refused (with document 01's number, see `desk refusals`); 2 wrong usage, or a file, disk or build that does
+exit status: 0 answered; 1 refused (with its number, see `desk refusals`); 2 wrong usage, or a file, disk or build that does
 not work.
 '''
 
@@ -56,9 +56,12 @@ def prices(word: str) -> Price:
 
 
 def refusal_number(word: str) -> int:
-    if not (word.isascii() and word.isdigit() and len(word) < 10 and int(word) in MEANINGS):
+    number = int(word) if word.isascii() and word.isdigit() and len(word) < 10 else 0
+    if number == 5:  # which an answer of an earlier version may have
+        raise argparse.ArgumentTypeError('5 is never given since version 3: 31, 32 and 33 say which of its three faults a book has')
+    if number not in MEANINGS:
         raise argparse.ArgumentTypeError(f'{word!r} is no refusal number')
-    return int(word)
+    return number
 
 
 class ShowVersion(argparse.Action):

@@ -7,7 +7,7 @@ from ..refusals import MEANINGS, Refused
 
 
 class Complaint(NamedTuple):
-    """Something that is refused: document 01's number where load or another call refuses it too, the place, and why."""
+    """Something that is refused: its number where load or another call refuses it too, the place, and why."""
     number: int | None
     where: str  # the file, and the line or byte in it
     why: str

@@ -4,13 +4,15 @@ from __future__ import annotations
 from typing import Any
 import subprocess
 
+from ..book import load_refusals
 from .files import read_bytes
 from .outcome import Complaint, Outcome, WrongUsage
 
 
 def report(file: str, program: str) -> Outcome:
     """What the program prints of a book, as it prints it."""
-    ended = subprocess.run([program], input=read_bytes(file), stdout=subprocess.PIPE, check=False)
+    book = read_bytes(file)
+    ended = subprocess.run([program], input=book, stdout=subprocess.PIPE, check=False)
     if ended.returncode:
         raise WrongUsage(f'the printing program {program} ended with status {ended.returncode}')
     printed = ended.stdout.decode().rstrip('\n')
@@ -18,8 +20,15 @@ def report(file: str, program: str) -> Outcome:
     data: dict[str, Any] = {'command': 'report', 'file': file, 'grades': [
         dict(zip(('grade', 'block_defaults', 'block_obligors', 'band'), map(int, line))) for line in lines[:-1]], 'gini': None}
     last = lines[-1]
+    if last[0] == 'refused':
+        return Outcome(printed, data, [], [of_load(int(last[-1]), book, file)])
     if 'refused' in last:
-        what = file if last[0] == 'refused' else f'the Gini of {file}'
-        return Outcome(printed, data, [], [Complaint(int(last[-1]), what, '')])
+        return Outcome(printed, data, [], [Complaint(int(last[-1]), f'the Gini of {file}', '')])
     data['gini'] = {'numerator': int(last[1]), 'denominator': int(last[2])}
     return Outcome(printed, data)
+
+
+def of_load(number: int, book: bytes, file: str) -> Complaint:
+    """Why the load was refused: the program prints the number alone, and the book is at hand to say where."""
+    found = load_refusals(book, 1)
+    return Complaint.of(found[0], file) if found and found[0].number == number else Complaint(number, file, '')

@@ -36,13 +36,13 @@ returns-7 : tie.Need-returns-7
 unfolding tableChecks
 returns-7 c =
     found (same (omega arith) (pass (omega arith) (pass (omega arith)
-    (pass (omega arith) (pass (omega arith) (same (omega arith) (over (omega arith))))))))
+    (pass (omega arith) (pass (omega arith) (same (omega arith) (pass (omega arith) none)))))))
 
 returns-8 : tie.Need-returns-8
 unfolding tableChecks
 returns-8 c =
     found (same (omega arith) (pass (omega arith) (pass (omega arith)
-    (pass (omega arith) (pass (omega arith) (same (omega arith) (pass (omega arith) none)))))))
+    (pass (omega arith) (pass (omega arith) (same (omega arith) (over (omega arith))))))))
 
 pub table-fault-spec : {M : Type 1} → statement M
 table-fault-spec =
