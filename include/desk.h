@@ -22,8 +22,8 @@
  *   A table is its number of grades (1 byte), its kind (1 byte: what the first column counts, 0 obligors, 1 survivors), two
  *   zero bytes, and for each grade first column, defaults, announced rate (4 bytes each). BOOK.md has one byte by byte.
  *
- * RULES. Every function but desk_version and desk_meaning returns 0, accepted, or the number of a refusal: the first that
- * applies, in the order given under `Refuses`. Accepted, it has written what stands under `Writes`, and nothing else.
+ * RULES. Every function but desk_version, desk_meaning and desk_wrong_cut returns 0, accepted, or the number of a refusal: the
+ * first that applies, in the order given under `Refuses`. Accepted, it has written what stands under `Writes`, and nothing else.
  * Refused, it has written nothing: the desk and every buffer are as they were.
  * All memory is the caller's: no function keeps a pointer, allocates or has state of its own, so calls on different desks may
  * run on different threads, and calls that keep the desk on one and the same. No pointer is null, not even with length 0 (as
@@ -105,12 +105,13 @@ typedef enum DeskCounts { DESK_BY_OBLIGORS = 'o', DESK_BY_SURVIVORS = 's' } Desk
 typedef struct DeskRow { uint32_t count, defaults, announced; } DeskRow;
 /* A book of one table: its first `length` bytes. */
 typedef struct DeskBook { uint8_t bytes[DESK_TABLE_BYTES]; size_t length; } DeskBook;
-/* Where a book is cut wrong: whose table to look at, the byte, and what was expected and found there.
- * 31: the offset at `byte` says that the rater's table starts at byte `found`; it has to start at byte `expected`, where the last
- *     one ended (of rater 1, where the offsets end).
- * 32: the rater's table starts at `byte` and would end at byte `expected` (its header, if that is byte + 4); the book ends at `found`.
- * 33: the table of the last rater ends at `byte`, where the book was `expected` to end; it ends at `found`, found - expected bytes on. */
-typedef struct DeskCut { uint32_t rater; size_t byte, expected, found; } DeskCut;
+/* Where a book is cut wrong: whose table it is, at which byte to look, and the byte that was expected and the one that was found.
+ * 31: the offset at `byte` says that the rater's table starts at `found`; it has to start at `expected`, where the last one ended
+ *     (of rater 1, where the offsets end).
+ * 32: the rater's table starts at `byte` and ends at `expected`; where that is byte + 4, its header does. The book ends at `found`.
+ * 33: the table of the last rater ends at `byte`, and so should the book, `expected`; it ends at `found`. found - expected bytes
+ *     follow. */
+typedef struct DeskWrongCut { uint32_t rater; size_t byte, expected, found; } DeskWrongCut;
 
 /* A result that is not looked at is warned about: a verdict that was refused may read as Equal. */
 #define DESK_CHECKED __attribute__((warn_unused_result))
@@ -122,7 +123,8 @@ typedef struct DeskCut { uint32_t rater; size_t byte, expected, found; } DeskCut
 DESK_ASSERT(sizeof(Desk) == 976 && sizeof(DeskPlace) == 488 && sizeof(size_t) == 8, "as in the library");
 DESK_ASSERT(sizeof(DeskCutoff) == 16 && sizeof(DeskPrice) == 8 && sizeof(DeskVerdict) == 20, "as in the library");
 DESK_ASSERT(sizeof(DeskFraction) == 16 && sizeof(DeskMeasures) == 88 && sizeof(DeskSpread) == 16, "as in the library");
-DESK_ASSERT(sizeof(DeskRow) == 12 && sizeof(DeskBook) == 504 && sizeof(DeskCut) == 32, "as in a book");
+DESK_ASSERT(sizeof(DeskRow) == 12 && sizeof(DeskBook) == 504, "as in a book");
+DESK_ASSERT(sizeof(DeskWrongCut) == 32, "as on every x86-64");
 
 #ifdef __cplusplus
 extern "C" {
@@ -136,7 +138,7 @@ uint32_t desk_empty(Desk *desk);
 
 /* Fills an empty place with the table of one rater, 1 to R, of a book. The table's kind says what its first column counts, and
  * a place holds obligors. The dearest mistake there is: survivors taken for obligors leave every figure looking right and can
- * make the losing scale win. After 31, 32 and 33, where a book is cut wrong, desk_cut says which table to look at, and where.
+ * make the losing scale win. After 31, 32 and 33, where a book is cut wrong, desk_wrong_cut says which table to look at, and where.
  * Writes: the place. Keeps: the other place, the book.
  * Refuses: 1, 21, 2, 3, 4; table by table 31 (start), 32 (header), 6, 7, 32 (rows); 33 (bytes left over); of the rater's rows,
  * one by one, 8, 9, 10; 11. */
@@ -247,34 +249,38 @@ DESK_CHECKED static inline uint32_t desk_load_rows(Desk *desk, uint32_t place, D
 }
 
 /* Finds where a book is cut wrong, after desk_load refused a rater of it with 31, 32 or 33: the first table that is not in its
- * place, or what follows the last. Returns what the library refuses the book with if that is 31, 32 or 33, and 0 otherwise.
- * Writes: the answer, unless 0 is returned. Keeps: the answer if 0 is returned, the book. Refuses nothing. */
-DESK_CHECKED static inline uint32_t desk_cut(const uint8_t *book, size_t length, DeskCut *answer)
+ * place, or what follows the last.
+ * Returns the number of the cut: what the library refuses the book with if that is 31, 32 or 33. Otherwise returns 0.
+ * Writes: the answer, where it returns a number. Keeps: the answer where it returns 0, the book. Refuses nothing. */
+DESK_CHECKED static inline uint32_t desk_wrong_cut(const uint8_t *book, size_t length, DeskWrongCut *answer)
 {
     Desk desk;
-    uint32_t refusal, raters, rater;
+    uint32_t number, rater;
     size_t end;
     desk_empty(&desk);
-    refusal = desk_load(&desk, 1, book, length, 1);
-    if (refusal != DESK_REFUSED_TABLE_START && refusal != DESK_REFUSED_TABLE_END && refusal != DESK_REFUSED_LEFTOVER) {
+    number = desk_load(&desk, 1, book, length, 1);
+    if (number != DESK_REFUSED_TABLE_START && number != DESK_REFUSED_TABLE_END && number != DESK_REFUSED_LEFTOVER) {
         return 0;
     }
-    raters = book[0]; /* at most 16, and their offsets are within the book: the library has looked */
-    end = 4 + 2 * raters;
-    for (rater = 1; rater <= raters; rater++) {
-        const size_t offset = 2 + 2 * rater, start = book[offset] + 256U * book[offset + 1], last_end = end;
-        const DeskCut elsewhere = {rater, offset, last_end, start};
-        end = start + 4 <= length ? start + 4 + 12U * book[start] : start + 4;
-        if (start != last_end || end > length) {
-            const DeskCut past_the_end = {rater, start, end, length};
-            *answer = start != last_end ? elsewhere : past_the_end;
-            return refusal;
+    end = 4 + 2U * book[0]; /* of 1 to 16 raters, whose offsets are within the book: the library has looked */
+    for (rater = 1; rater <= book[0]; rater++) {
+        const size_t offset = 2 + 2 * rater, start = book[offset] + 256U * book[offset + 1];
+        if (start != end) {
+            const DeskWrongCut elsewhere = {rater, offset, end, start};
+            *answer = elsewhere;
+            return number;
+        }
+        end = start + 4 + (start + 4 <= length ? 12U * book[start] : 0);
+        if (end > length) {
+            const DeskWrongCut past_the_end = {rater, start, end, length};
+            *answer = past_the_end;
+            return number;
         }
     }
-    answer->rater = raters;
+    answer->rater = book[0];
     answer->byte = answer->expected = end;
     answer->found = length;
-    return refusal;
+    return number;
 }
 
 /* The meaning of a refusal number, in words. */

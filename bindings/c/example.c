@@ -13,7 +13,7 @@ static void accept_or_exit(const char *what, uint32_t refusal)
 }
 
 /* What to look for in a book that is cut wrong: the rater and the byte. */
-static void say_cut(uint32_t refusal, DeskCut cut)
+static void say_cut(uint32_t refusal, DeskWrongCut cut)
 {
     if (refusal == DESK_REFUSED_TABLE_START) {
         fprintf(stderr, "; byte %zu: the table of rater %" PRIu32 " is said to start at byte %zu", cut.byte, cut.rater, cut.found);
@@ -24,8 +24,10 @@ static void say_cut(uint32_t refusal, DeskCut cut)
             fprintf(stderr, "the table of rater %" PRIu32 " ends", cut.rater - 1);
         }
     } else if (refusal == DESK_REFUSED_TABLE_END) {
-        fprintf(stderr, "; byte %zu: the book ends here; the table of rater %" PRIu32 " starts at byte %zu", cut.found, cut.rater, cut.byte);
-        fprintf(stderr, ", bytes missing from its %s: %zu", cut.expected == cut.byte + 4 ? "header" : "rows", cut.expected - cut.found);
+        fprintf(stderr, "; byte %zu: the table of rater %" PRIu32 " starts here and its ", cut.byte, cut.rater);
+        fprintf(stderr, "%s at byte %zu; the book ends at byte %zu", cut.expected == cut.byte + 4 ? "header ends" : "rows end", cut.expected,
+                cut.found);
+        fprintf(stderr, ", bytes missing: %zu", cut.expected - cut.found);
     } else {
         fprintf(stderr, "; byte %zu: the table of rater %" PRIu32 ", the last, ends here", cut.byte, cut.rater);
         fprintf(stderr, "; bytes that follow it: %zu, expected none", cut.found - cut.expected);
@@ -34,7 +36,7 @@ static void say_cut(uint32_t refusal, DeskCut cut)
 
 static void load(Desk *desk, uint32_t place, const char *path, const char *rater)
 {
-    DeskCut cut;
+    DeskWrongCut cut;
     static uint8_t book[65536]; /* one byte more than a book can have */
     unsigned long number = strtoul(rater, NULL, 10);
     FILE *file = fopen(path, "rb");
@@ -47,7 +49,7 @@ static void load(Desk *desk, uint32_t place, const char *path, const char *rater
     const uint32_t refusal = desk_load(desk, place, book, length, number <= UINT32_MAX ? (uint32_t)number : 0);
     if (refusal != 0) {
         fprintf(stderr, "%s: refused %" PRIu32 ": %s", path, refusal, desk_meaning(refusal));
-        if (desk_cut(book, length, &cut) == refusal) {
+        if (desk_wrong_cut(book, length, &cut) == refusal) {
             say_cut(refusal, cut);
         }
         fputc('\n', stderr);

@@ -3,14 +3,12 @@
 
 use crate::book::{MAX_RATERS, ROW_BYTES};
 use crate::cuts::{
-    count_past_end, cut_rows, leave_bytes, leave_over, leave_rows, missing_bytes, misstate_offset,
-    run_past_end, start_elsewhere,
+    count_past_end, count_past_short_end, cut_rows, leave_bytes, leave_few, leave_over, leave_rows,
+    missing_bytes, misstate_offset, run_past_end, start_elsewhere, start_elsewhere_whole,
 };
-use crate::draft::Draft;
+use crate::draft::{any_tables, Draft};
 use crate::generate::Generator;
-use crate::population::any_table;
 use crate::random::Random;
-use crate::table::Table;
 use std::fmt;
 
 /// In the order of their numbers: 31, 32, 33.
@@ -143,27 +141,37 @@ impl Cut {
         let few = 1 + random.index(2);
         let many = 4 + random.index(MAX_RATERS - 3);
         let raters = random.weighted(&[(1, few), (4, 3), (2, many), (1, MAX_RATERS)]);
-        // In a short book a table of up to 40 grades can end behind it.
-        let most_grades = random.pick(&[1, 2, 2, 5, 40]);
-        let mut tables: Vec<Table> = (0..raters.max(fewest)).map(|_| any_table(random)).collect();
-        for table in &mut tables {
-            table.grades.truncate(most_grades);
+        let raters = raters.max(fewest);
+        if self.fault.0 == Fault::BytesFollow && self.then_is(Fault::RunsPastEnd) {
+            return Draft::short(random, raters);
         }
+        let most_grades = random.pick(&[1, 2, 2, 5, 40]);
+        let tables = any_tables(random, raters, most_grades);
         Draft::of_tables(random, &tables, 1)
     }
 
+    fn then_is(self, fault: Fault) -> bool {
+        self.then.is_some_and(|then| then.0 == fault)
+    }
+
     fn damage(self, random: &mut Random, draft: &mut Draft) {
-        let (fault, at) = self.fault;
-        let index = at.index(random, draft.raters(), 0);
+        let index = self.fault.1.index(random, draft.raters(), 0);
         self.damage_first(random, draft, index);
-        let Some((then, at)) = self.then else {
+        if let Some((_, at)) = self.then {
+            let later = at.index(random, draft.raters(), index);
+            self.damage_besides(random, draft, index, later);
+        }
+    }
+
+    /// The second fault. The first one stays, save that bytes behind a table that runs past the end
+    /// may be those that it lacks.
+    fn damage_besides(self, random: &mut Random, draft: &mut Draft, index: usize, later: usize) {
+        let Some((then, _)) = self.then else {
             return;
         };
-        let later = at.index(random, draft.raters(), index);
-        // What the first fault has done to the bytes must stay.
-        match (fault, then) {
+        match (self.fault.0, then) {
             (_, Fault::StartsElsewhere) => misstate_offset(random, draft, later),
-            (Fault::BytesFollow, _) => count_past_end(random, draft, later),
+            (Fault::BytesFollow, _) => count_past_short_end(random, draft, later),
             (_, Fault::RunsPastEnd) => run_past_end(random, draft, later),
             (Fault::RunsPastEnd, _) => leave_about_enough(random, draft, index),
             (Fault::StartsElsewhere, _) => leave_over(random, draft),
@@ -172,8 +180,10 @@ impl Cut {
 
     fn damage_first(self, random: &mut Random, draft: &mut Draft, index: usize) {
         let alone = self.then.is_none();
-        let with_bytes = self.then == Some((Fault::BytesFollow, At::Last));
+        let with_bytes = self.then_is(Fault::BytesFollow);
+        let with_end = self.then_is(Fault::RunsPastEnd);
         match self.fault.0 {
+            Fault::StartsElsewhere if with_end => start_elsewhere_whole(random, draft, index),
             Fault::StartsElsewhere => start_elsewhere(random, draft, index),
             // A header that is cut would be made up from those bytes.
             Fault::RunsPastEnd if with_bytes && random.chance(70) => {
@@ -182,6 +192,7 @@ impl Cut {
             Fault::RunsPastEnd if with_bytes => cut_rows(random, draft, index),
             Fault::RunsPastEnd => run_past_end(random, draft, index),
             Fault::BytesFollow if alone && random.chance(30) => leave_rows(random, draft),
+            Fault::BytesFollow if with_end => leave_few(random, draft),
             Fault::BytesFollow => leave_over(random, draft),
         }
     }
@@ -191,7 +202,8 @@ impl Cut {
 /// book after all.
 fn leave_about_enough(random: &mut Random, draft: &mut Draft, index: usize) {
     let missing = missing_bytes(draft, index);
-    let count = random.pick(&[1, missing - 1, missing, missing + 1, missing + ROW_BYTES]);
+    let one_less = missing.saturating_sub(1);
+    let count = random.pick(&[1, one_less, missing, missing + 1, missing + ROW_BYTES]);
     leave_bytes(random, draft, count.max(1));
 }
 
@@ -213,6 +225,100 @@ impl Generator {
             self.empty(place);
             draft.rater = rater;
             self.load_cut(place, draft.clone(), cut);
+        }
+    }
+}
+
+#[cfg(test)]
+mod tests {
+    use super::*;
+    use crate::book::{self, HEAD_BYTES, TABLE_HEAD_BYTES};
+    use crate::cuts::stated_end;
+    use crate::table::Refusal;
+
+    /// Of the tables as they truly stand, whatever the offsets say.
+    fn is_there(fault: Fault, draft: &Draft, index: usize) -> bool {
+        let length = draft.bytes.len();
+        let end_before = match index {
+            0 => HEAD_BYTES + 2 * draft.raters(),
+            _ => stated_end(draft, index - 1),
+        };
+        match fault {
+            Fault::StartsElsewhere => draft.stated_start(index) != end_before,
+            Fault::RunsPastEnd => {
+                let no_header = draft.start(index) + TABLE_HEAD_BYTES > length;
+                no_header || missing_bytes(draft, index) > 0
+            }
+            Fault::BytesFollow => draft.end(draft.raters() - 1) < length,
+        }
+    }
+
+    fn number(fault: Fault) -> Refusal {
+        match fault {
+            Fault::StartsElsewhere => 31,
+            Fault::RunsPastEnd => 32,
+            Fault::BytesFollow => 33,
+        }
+    }
+
+    /// Which of the two load comes to first.
+    fn found_first(fault: Fault, then: Fault, at: At) -> Fault {
+        match at {
+            At::Later => fault,
+            _ => fault.min(then),
+        }
+    }
+
+    /// Bytes behind a table that runs past the end may be what it lacks.
+    fn may_mend(cut: Cut) -> bool {
+        cut.fault.0 == Fault::RunsPastEnd && cut.then_is(Fault::BytesFollow)
+    }
+
+    #[test]
+    fn both_faults_are_there_and_load_finds_the_first() {
+        for cut in every_cut().into_iter().filter(|&cut| !may_mend(cut)) {
+            for seed in 0..300 {
+                let random = &mut Random::of_seed(seed);
+                let mut draft = cut.sound_book(random);
+                let index = cut.fault.1.index(random, draft.raters(), 0);
+                cut.damage_first(random, &mut draft, index);
+                let mut found = cut.fault.0;
+                if let Some((then, at)) = cut.then {
+                    let later = at.index(random, draft.raters(), index);
+                    cut.damage_besides(random, &mut draft, index, later);
+                    assert!(is_there(then, &draft, later), "{cut}, {seed}");
+                    found = found_first(found, then, at);
+                    // Alone, bytes may follow as rows that the last table does not count.
+                    assert!(is_there(cut.fault.0, &draft, index), "{cut}, {seed}");
+                }
+                for rater in (1..).take(draft.raters()) {
+                    let read = book::read(&draft.bytes, rater).err();
+                    assert_eq!(read, Some(number(found)), "{cut}, {seed}");
+                }
+            }
+        }
+    }
+
+    #[test]
+    fn bytes_behind_a_table_past_the_end_are_too_few_or_enough() {
+        for cut in every_cut().into_iter().filter(|&cut| may_mend(cut)) {
+            let (mut too_few, mut enough) = (0, 0);
+            for seed in 0..300 {
+                let random = &mut Random::of_seed(seed);
+                let mut draft = cut.sound_book(random);
+                let index = cut.fault.1.index(random, draft.raters(), 0);
+                cut.damage_first(random, &mut draft, index);
+                assert!(is_there(Fault::RunsPastEnd, &draft, index), "{cut}, {seed}");
+                let (length, missing) = (draft.bytes.len(), missing_bytes(&draft, index));
+                cut.damage_besides(random, &mut draft, index, index);
+                let more = draft.bytes.len() - length;
+                assert!(more > 0, "{cut}, {seed}");
+                let still = is_there(Fault::RunsPastEnd, &draft, index);
+                assert_eq!(still, more < missing, "{cut}, {seed}");
+                too_few += usize::from(still);
+                enough += usize::from(!still);
+            }
+            assert!(too_few > 50 && enough > 50, "{cut}: {too_few}, {enough}");
         }
     }
 }

@@ -30,6 +30,21 @@ pub fn start_elsewhere(random: &mut Random, draft: &mut Draft, index: usize) {
     way(random, draft, index);
 }
 
+/// 31; all tables stay whole, so that one of them can run past the end besides.
+pub(crate) fn start_elsewhere_whole(random: &mut Random, draft: &mut Draft, index: usize) {
+    let of_any_table = [(3, misstate_offset as CutAt), (1, leave_gap)];
+    let behind_another = [
+        (3, misstate_offset as CutAt),
+        (1, leave_gap),
+        (2, regrade_before),
+    ];
+    let way = match index {
+        0 => random.weighted(&of_any_table),
+        _ => random.weighted(&behind_another),
+    };
+    way(random, draft, index);
+}
+
 pub fn misstate_offset(random: &mut Random, draft: &mut Draft, index: usize) {
     let start = draft.start(index);
     let other = draft.start(random.index(draft.raters()));
@@ -130,8 +145,13 @@ pub fn run_past_end(random: &mut Random, draft: &mut Draft, index: usize) {
 
 /// Cuts at the start of a table or within its header, and with it all tables behind it.
 pub fn cut_header(random: &mut Random, draft: &mut Draft, index: usize) {
-    let cut = draft.start(index) + random.index(TABLE_HEAD_BYTES);
-    draft.bytes.truncate(cut);
+    let left = random.index(TABLE_HEAD_BYTES);
+    cut_header_to(draft, index, left);
+}
+
+/// Leaves so many bytes of the header.
+pub(crate) fn cut_header_to(draft: &mut Draft, index: usize, left: usize) {
+    draft.bytes.truncate(draft.start(index) + left);
     draft.restate_length();
 }
 
@@ -146,35 +166,53 @@ pub fn cut_rows(random: &mut Random, draft: &mut Draft, index: usize) {
 
 /// The table counts so many grades that it would end behind the book.
 pub fn count_past_end(random: &mut Random, draft: &mut Draft, index: usize) {
-    let ends_behind_book = |end: usize| end > draft.bytes.len();
-    match wrong_count(random, draft, index, ends_behind_book) {
+    match past_end_count(random, draft, index) {
         Some(count) => draft.put_grade_count(index, count),
         // Even 40 grades end within the book.
         None => cut_rows(random, draft, index),
     }
 }
 
+/// As `count_past_end`, of a short book: no byte is lost.
+pub(crate) fn count_past_short_end(random: &mut Random, draft: &mut Draft, index: usize) {
+    let count = past_end_count(random, draft, index);
+    draft.put_grade_count(index, count.expect("40 grades end behind a short book"));
+}
+
+fn past_end_count(random: &mut Random, draft: &Draft, index: usize) -> Option<usize> {
+    let ends_behind_book = |end: usize| end > draft.bytes.len();
+    wrong_count(random, draft, index, ends_behind_book)
+}
+
 /// How many bytes the book lacks for the rows that the table's header counts.
 pub(crate) fn missing_bytes(draft: &Draft, index: usize) -> usize {
+    stated_end(draft, index).saturating_sub(draft.bytes.len())
+}
+
+/// Where the table ends by the grade count of its header; by its rows if that count is cut off.
+pub(crate) fn stated_end(draft: &Draft, index: usize) -> usize {
     let stated = draft.bytes.get(draft.start(index));
     let count = stated.map_or(draft.grade_count(index), |&count| count.into());
-    let end = draft.end_with(index, count);
-    end.saturating_sub(draft.bytes.len())
+    draft.end_with(index, count)
 }
 
 /// 33.
 pub fn leave_over(random: &mut Random, draft: &mut Draft) {
-    match random.between(0, 2) {
-        0 => {
-            let count = random.pick(&[1, 1, 2, 3, 4, 11, 12, 13, 16]);
-            leave_bytes(random, draft, count);
-        }
-        1 => {
-            let pasted = draft.table(random.index(draft.raters()));
-            append(draft, &pasted);
-        }
-        _ => append(draft, &draft.bytes.clone()),
+    if random.chance(67) {
+        return leave_few(random, draft);
     }
+    append(draft, &draft.bytes.clone());
+}
+
+/// 33; a short book stays short.
+pub(crate) fn leave_few(random: &mut Random, draft: &mut Draft) {
+    let pasted = draft.table(random.index(draft.raters()));
+    // A table that was cut is not there to be pasted.
+    if pasted.is_empty() || random.chance(50) {
+        let count = random.pick(&[1, 1, 2, 3, 4, 11, 12, 13, 16]);
+        return leave_bytes(random, draft, count);
+    }
+    append(draft, &pasted);
 }
 
 /// A book that was pasted together several times would become longer than a script can lend.

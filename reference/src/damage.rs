@@ -41,6 +41,12 @@ pub const WAYS: [Way; 26] = [
 /// The numbers of `WAYS` in the order in which load comes to them first.
 pub const LOAD_ORDER: [Refusal; 12] = [2, 3, 4, 31, 32, 6, 7, 33, 8, 9, 10, 11];
 
+/// Grade counts outside 1 to 40.
+pub(crate) const COUNTS_OUTSIDE: [u8; 4] = [0, 41, 42, 255];
+pub(crate) const COUNTS_ABOVE: [u8; 3] = [41, 42, 255];
+pub(crate) const ODD_KINDS: [u8; 4] = [2, 3, 128, 255];
+pub(crate) const ODD_ZERO_BYTES: [[u8; 2]; 4] = [[1, 0], [0, 1], [255, 255], [0, 128]];
+
 /// A way to damage, each refusal number as often as the others.
 pub fn any_way(random: &mut Random) -> Way {
     let number = random.pick(&LOAD_ORDER);
@@ -137,7 +143,7 @@ fn any_count_past_end(random: &mut Random, draft: &mut Draft) {
 
 fn grade_count_outside(random: &mut Random, draft: &mut Draft) {
     let index = random.index(draft.raters());
-    let count = random.pick(&[0, 41, 42, 255]);
+    let count = random.pick(&COUNTS_OUTSIDE);
     draft.put(draft.start(index), &[count]);
 }
 
@@ -154,13 +160,13 @@ fn forty_one_grades(_: &mut Random, draft: &mut Draft) {
 
 fn odd_kind(random: &mut Random, draft: &mut Draft) {
     let index = random.index(draft.raters());
-    let kind = random.pick(&[2, 3, 128, 255]);
+    let kind = random.pick(&ODD_KINDS);
     draft.put(draft.start(index) + 1, &[kind]);
 }
 
 fn odd_zero_bytes(random: &mut Random, draft: &mut Draft) {
     let index = random.index(draft.raters());
-    let bytes = random.pick(&[[1, 0], [0, 1], [255, 255], [0, 128]]);
+    let bytes = random.pick(&ODD_ZERO_BYTES);
     draft.put(draft.start(index) + 2, &bytes);
 }
 

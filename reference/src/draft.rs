@@ -43,6 +43,15 @@ impl Draft {
         }
     }
 
+    /// A valid book of tables of at most 2 grades. Any table of it would end behind it with 40
+    /// grades, also if it is 28 bytes longer (`cuts::leave_few`): 16 raters have 484 bytes, and
+    /// the first one's 40 grades would end at 520.
+    pub(crate) fn short(random: &mut Random, raters: usize) -> Draft {
+        let most_grades = random.pick(&[1, 2]);
+        let tables = any_tables(random, raters, most_grades);
+        Draft::of_tables(random, &tables, 1)
+    }
+
     /// A valid book of 1 to 16 raters in which one of them has this table.
     pub fn around(random: &mut Random, table: &Table) -> Draft {
         let raters = any_rater_count(random);
@@ -99,6 +108,12 @@ impl Draft {
 
     pub(crate) fn put_offset(&mut self, index: usize, offset: usize) {
         self.put(HEAD_BYTES + 2 * index, &(offset as u16).to_le_bytes());
+    }
+
+    #[cfg(test)]
+    pub(crate) fn stated_start(&self, index: usize) -> usize {
+        let at = HEAD_BYTES + 2 * index;
+        u16::from_le_bytes([self.bytes[at], self.bytes[at + 1]]).into()
     }
 
     /// States where this table and those behind it stand now.
@@ -162,6 +177,15 @@ impl Draft {
         let length = self.bytes.len() as u16;
         self.put(2, &length.to_le_bytes());
     }
+}
+
+/// Tables of at most so many grades.
+pub(crate) fn any_tables(random: &mut Random, raters: usize, most_grades: usize) -> Vec<Table> {
+    let mut tables: Vec<Table> = (0..raters).map(|_| any_table(random)).collect();
+    for table in &mut tables {
+        table.grades.truncate(most_grades);
+    }
+    tables
 }
 
 fn any_rater_count(random: &mut Random) -> usize {

@@ -4,6 +4,7 @@
 use crate::cut_scene::{every_cut, Cut};
 use crate::desk::Desk;
 use crate::draft::Draft;
+use crate::pair_scene::{every_pair, FaultPair};
 use crate::random::Random;
 use crate::scenes::SCENES;
 use crate::script::{decode, Call};
@@ -19,13 +20,20 @@ pub struct Script {
     pub tail: Vec<u8>,
 }
 
+/// What is wrong with the layout of books, by the index of the call that loads them.
+#[derive(Default)]
+pub(crate) struct WrongLayouts {
+    pub cuts: BTreeMap<usize, Cut>,
+    pub pairs: BTreeMap<usize, FaultPair>,
+}
+
 impl Script {
     pub fn generate(seed: u64, calls: usize) -> Script {
-        Script::with_cuts(seed, calls).0
+        Script::with_layouts(seed, calls).0
     }
 
-    /// The script, and how books of it are cut wrong, by the index of the call that loads them.
-    pub(crate) fn with_cuts(seed: u64, calls: usize) -> (Script, BTreeMap<usize, Cut>) {
+    /// The script, and what is wrong with the books of its scenes about the layout.
+    pub(crate) fn with_layouts(seed: u64, calls: usize) -> (Script, WrongLayouts) {
         let mut generator = Generator::of_seed(seed);
         while generator.calls.len() < calls {
             generator.scene();
@@ -41,7 +49,7 @@ impl Script {
             scenes: generator.scenes,
             tail,
         };
-        (script, generator.cuts)
+        (script, generator.wrong)
     }
 
     /// The script that these bytes are.
@@ -69,8 +77,9 @@ pub struct Generator {
     pub desk: Desk,
     calls: Vec<Call>,
     scenes: Vec<&'static str>,
-    cuts: BTreeMap<usize, Cut>,
+    wrong: WrongLayouts,
     cuts_to_come: Vec<Cut>,
+    pairs_to_come: Vec<FaultPair>,
     name: &'static str,
 }
 
@@ -81,8 +90,9 @@ impl Generator {
             desk: Desk::fresh(),
             calls: vec![],
             scenes: vec![],
-            cuts: BTreeMap::new(),
+            wrong: WrongLayouts::default(),
             cuts_to_come: vec![],
+            pairs_to_come: vec![],
             name: "",
         }
     }
@@ -111,18 +121,23 @@ impl Generator {
         self.emit(Call::Load { place, rater, book });
     }
 
-    /// Each as often as the others, so that none is rare.
     pub(crate) fn next_cut(&mut self) -> Cut {
-        if self.cuts_to_come.is_empty() {
-            self.cuts_to_come = every_cut();
-            self.random.shuffle(&mut self.cuts_to_come);
-        }
-        self.cuts_to_come.pop().expect("just filled")
+        self.random.deal(&mut self.cuts_to_come, every_cut)
+    }
+
+    pub(crate) fn next_pair(&mut self) -> FaultPair {
+        self.random.deal(&mut self.pairs_to_come, every_pair)
     }
 
     /// A load of a book that is cut wrong in this manner.
     pub(crate) fn load_cut(&mut self, place: u32, draft: Draft, cut: Cut) {
-        self.cuts.insert(self.calls.len(), cut);
+        self.wrong.cuts.insert(self.calls.len(), cut);
+        self.load(place, draft);
+    }
+
+    /// A load of a book that has these two faults.
+    pub(crate) fn load_faulty(&mut self, place: u32, draft: Draft, pair: FaultPair) {
+        self.wrong.pairs.insert(self.calls.len(), pair);
         self.load(place, draft);
     }
 

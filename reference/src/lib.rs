@@ -6,7 +6,7 @@
 //! * the scripts of REPLAY.md: `script` (calls), `answer` (lines);
 //! * the generator: `random`, `population` (tables), `partners` (pairs of tables), `diagonal`
 //!   (tables for Pietra), `draft` (books), `damage` and `cuts` (of books), `operands`, `scenes`,
-//!   `cut_scene`, `tail`, `generate`;
+//!   `cut_scene`, `pair_scene`, `tail`, `generate`;
 //! * the comparison: `compare`, `tally`;
 //! * `natural`: whole numbers of any size, for the bound on the residual.
 
@@ -24,6 +24,7 @@ pub mod generate;
 pub mod measures;
 pub mod natural;
 pub mod operands;
+pub mod pair_scene;
 pub mod partners;
 pub mod pooling;
 pub mod population;

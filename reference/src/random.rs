@@ -49,6 +49,15 @@ impl Random {
         unreachable!("the weights add up to their total")
     }
 
+    /// One of all, each as often as the others, so that none is rare; `left` are those to come.
+    pub(crate) fn deal<T>(&mut self, left: &mut Vec<T>, all: fn() -> Vec<T>) -> T {
+        if left.is_empty() {
+            *left = all();
+            self.shuffle(left);
+        }
+        left.pop().expect("just filled")
+    }
+
     /// The items in random order.
     pub fn shuffle<T>(&mut self, items: &mut [T]) {
         for last in (1..items.len()).rev() {

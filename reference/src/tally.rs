@@ -1,12 +1,13 @@
 //! How often one run exercises which operations, verdicts, kinds of Pietra, refusal numbers, books
-//! cut wrong, buffers and scenes.
+//! cut wrong, pairs of faults, buffers and scenes.
 
 use crate::answer::{verdict_name, Answer};
 use crate::compare::plan;
 use crate::cut_scene::Cut;
 use crate::desk::Desk;
-use crate::generate::Script;
+use crate::generate::{Script, WrongLayouts};
 use crate::measures::{heights, Measures};
+use crate::pair_scene::{every_pair, FaultPair, Where};
 use crate::script::Call;
 use crate::table::{Refusal, Table};
 use std::cmp::Ordering;
@@ -24,6 +25,7 @@ pub struct Tally {
     /// For each refusal number, the calls of each operation.
     refusals: BTreeMap<Refusal, BTreeMap<&'static str, usize>>,
     cuts: BTreeMap<Cut, CutLoads>,
+    pairs: BTreeMap<FaultPair, usize>,
     /// Lent buffers against what the call needs.
     buffers: BTreeMap<(&'static str, &'static str), usize>,
     scenes: BTreeMap<&'static str, usize>,
@@ -42,13 +44,13 @@ impl Tally {
     pub fn of_run(seed: u64, calls: usize) -> Tally {
         let mut tally = Tally::default();
         for (seed, calls) in plan(seed, calls) {
-            let (script, cuts) = Script::with_cuts(seed, calls);
-            tally.add_script(&script, &cuts);
+            let (script, wrong) = Script::with_layouts(seed, calls);
+            tally.add_script(&script, &wrong);
         }
         tally
     }
 
-    fn add_script(&mut self, script: &Script, cuts: &BTreeMap<usize, Cut>) {
+    fn add_script(&mut self, script: &Script, wrong: &WrongLayouts) {
         self.scripts += 1;
         self.broken_scripts += usize::from(!script.tail.is_empty());
         let mut desk = Desk::fresh();
@@ -58,8 +60,11 @@ impl Tally {
             self.add_pietra(&desk, call);
             let answer = desk.call(call);
             self.add_answer(call.name(), &answer);
-            if let Some(&cut) = cuts.get(&index) {
+            if let Some(&cut) = wrong.cuts.get(&index) {
                 self.add_cut(cut, call, &answer);
+            }
+            if let Some(&pair) = wrong.pairs.get(&index) {
+                *self.pairs.entry(pair).or_default() += 1;
             }
         }
     }
@@ -131,6 +136,7 @@ impl Tally {
             self.pietra_table(),
             self.refusal_table(),
             self.cut_table(),
+            self.pair_table(),
             self.buffer_table(),
             self.scene_table(),
         ]
@@ -200,6 +206,25 @@ impl Tally {
             text += &format!("| {cut} | {first}, {middle}, {last} | {answers} |\n");
         }
         text
+    }
+
+    /// One row for where the two faults stand.
+    fn pair_table(&self) -> String {
+        let mut times: BTreeMap<Where, Vec<usize>> = BTreeMap::new();
+        for pair in every_pair() {
+            let loads = self.pairs.get(&pair).copied().unwrap_or(0);
+            times.entry(pair.stand).or_default().push(loads);
+        }
+        let mut lines = vec![
+            "| two faults | pairs | loads | fewest of a pair |".to_string(),
+            "| --- | --- | --- | --- |".to_string(),
+        ];
+        for (stand, times) in times {
+            let (pairs, loads) = (times.len(), times.iter().sum::<usize>());
+            let fewest = times.into_iter().min().unwrap_or(0);
+            lines.push(format!("| {stand} | {pairs} | {loads} | {fewest} |"));
+        }
+        lines.join("\n") + "\n"
     }
 
     fn buffer_table(&self) -> String {

@@ -268,3 +268,22 @@ fn books_cut_wrong_have_1_2_3_and_up_to_16_raters() {
     let of_two_or_less: usize = books[..3].iter().sum();
     assert!(3 * of_two_or_less < books.iter().sum(), "{books:?}");
 }
+
+/// As many calls as the gate has for a seed.
+#[test]
+fn a_run_has_every_pair_of_faults() {
+    for seed in [1, 2, 3] {
+        let tally = Tally::of_run(seed, 15_000).markdown();
+        for (stand, pairs) in [
+            ("at one table", 18),
+            ("at a table and the next", 32),
+            ("at a table and behind the last", 5),
+        ] {
+            let start = format!("| {stand} | {pairs} | ");
+            let line = tally.lines().find(|line| line.starts_with(&start));
+            let fewest = line.and_then(|line| line.split(" | ").last());
+            let fewest = fewest.and_then(|cell| cell.trim_end_matches(" |").parse().ok());
+            assert!(fewest.unwrap_or(0) >= 5, "seed {seed}: {line:?}");
+        }
+    }
+}

@@ -91,13 +91,13 @@ class Books(Converting):
         self.not_taken('unpack', b'\1\0\4\0', 3, 'byte 4: the book ends here')
         self.not_taken('unpack', b'\2\0\7\0\6\0\0', 3, 'byte 7: the book ends here, within the offsets')
 
-    def test_5_starts_ends_leftover(self) -> None:
+    def test_31_starts_32_ends_33_leftover(self) -> None:
         self.not_taken('unpack', with_bytes(self.TWO, b4=9), 31, 'byte 4: the table of rater 1 is said to start at byte 9; expected byte 8')
         self.not_taken('unpack', with_bytes(self.TWO, b6=37), 31, 'byte 6: the table of rater 2 is said to start at byte 37; expected byte 36')
-        missing = 'the book ends here; the table of rater {} starts at byte {}, bytes missing from its {}'
-        self.not_taken('unpack', b'\1\0\6\0\6\0', 32, 'byte 6: ' + missing.format(1, 6, 'header: 4'))
-        self.not_taken('unpack', b'\1\0\11\0\6\0\1\0\0', 32, 'byte 9: ' + missing.format(1, 6, 'header: 1'))
-        self.not_taken('unpack', with_bytes(self.TWO, b36=2), 32, 'byte 52: ' + missing.format(2, 36, 'rows: 12'))
+        missing = 'byte {}: the table of rater {} starts here and its {} at byte {}; the book ends at byte {}, bytes missing: {}'
+        self.not_taken('unpack', b'\1\0\6\0\6\0', 32, missing.format(6, 1, 'header ends', 10, 6, 4))
+        self.not_taken('unpack', b'\1\0\11\0\6\0\1\0\0', 32, missing.format(6, 1, 'header ends', 10, 9, 1))
+        self.not_taken('unpack', with_bytes(self.TWO, b36=2), 32, missing.format(36, 2, 'rows end', 64, 52, 12))
         self.not_taken('unpack', with_bytes(BOOK_K, b6=2), 33, 'byte 34: the table of rater 1, the last, ends here; bytes that follow it: 12')
 
     def test_6_grades(self) -> None:

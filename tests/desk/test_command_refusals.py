@@ -24,8 +24,8 @@ FROM_A_BOOK = {2: BOOK_K[:-1], 3: b'\x11' + BOOK_K[1:], 6: BOOK_K[:6] + b'\x29' 
                31: BOOK_K[:4] + b'\x07' + BOOK_K[5:], 32: BOOK_K[:2] + b'\x2d' + BOOK_K[3:-1], 33: BOOK_K[:2] + b'\x2f' + BOOK_K[3:] + b'\0'}
 # What to look for in the examples that are cut wrong: number, and rater and byte.
 CUT_WRONG = {
-    'start': (31, 'byte 6: the table of rater 2 is said to start at byte 6; expected byte 36, where the table of rater 1 ends'),
-    'end': (32, 'byte 56: the book ends here; the table of rater 2 starts at byte 36, bytes missing from its rows: 8'),
+    'start': (31, 'byte 6: the table of rater 2 is said to start at byte 8; expected byte 36, where the table of rater 1 ends'),
+    'end': (32, 'byte 36: the table of rater 2 starts here and its rows end at byte 64; the book ends at byte 56, bytes missing: 8'),
     'leftover': (33, 'byte 64: the table of rater 2, the last, ends here; bytes that follow it: 16, expected none')}
 ROWS = {8: (1, 2, 0), 9: (0, 0, 0), 10: (1, 0, 1_000_001), 11: (1_000_001, 0, 0)}
 FROM_CSV = {3: '\n', 6: OBLIGORS}

@@ -66,7 +66,7 @@ class StandIn(Case):
             self.assertEqual(self.reported(prints), (1, prints, f'desk: {said}\n'))
 
     def test_a_refused_load_is_said_with_its_byte(self) -> None:
-        for name, number, byte in (('start', 31, 'byte 6: '), ('end', 32, 'byte 56: '), ('leftover', 33, 'byte 64: ')):
+        for name, number, byte in (('start', 31, 'byte 6: '), ('end', 32, 'byte 36: '), ('leftover', 33, 'byte 64: ')):
             path = example(f'cut_wrong/{name}.book')
             with unittest.mock.patch.object(main, 'printing_program', lambda: self.program(f'refused {number}\n')):
                 ran = ask('report', path)

@@ -18,7 +18,7 @@ from desk import Kind, MEANINGS, book, library, table  # noqa: E402
 HEADER = read('include', 'desk.h').decode()
 CODE = re.sub(r'/\*.*?\*/', '', HEADER, flags=re.S)  # without comments
 NUMBERS = {name: int(value) for name, value in re.findall(r'^#define (DESK_\w+) (\d+)', CODE, re.M)}
-C_ALONE = {'DeskRow', 'DeskBook', 'DeskCut'}  # counts from memory, where a book is cut wrong: Python has its own ways
+C_ALONE = {'DeskRow', 'DeskBook', 'DeskWrongCut'}  # counts from memory, where a book is cut wrong: Python has its own ways
 STRUCTS = {name: getattr(library, 'DeskImage' if name == 'Desk' else name) for name in re.findall(r'typedef struct (\w+)', CODE)
            if name not in C_ALONE}
 TYPES = {'uint8_t': c_uint8, 'uint32_t': c_uint32, 'int64_t': c_int64, 'size_t': c_size_t, 'double': c_double, **STRUCTS}
@@ -26,7 +26,7 @@ TYPES = {'uint8_t': c_uint8, 'uint32_t': c_uint32, 'int64_t': c_int64, 'size_t':
 REFUSED = {'desk_empty': [], 'desk_load': [1, 21, 2, 3, 4, 31, 32, 6, 7, 32, 33, 8, 9, 10, 11], 'desk_clear': [1, 22], 'desk_pool': [1, 22, 13],
            'desk_cheapest': [1, 22, 12], 'desk_compare': [22, 23, 24, 25], 'desk_measures': [1, 22, 23, 24], 'desk_brier': [1, 22],
            'desk_spread': [1, 22], 'desk_write': [22, 13], 'desk_book': [6, 7, 8, 9, 10, 11], 'desk_load_rows': [1, 21, 6, 7, 8, 9, 10, 11],
-           'desk_cut': []}
+           'desk_wrong_cut': []}
 
 
 def fields(body: str) -> list[tuple[str, type]]:

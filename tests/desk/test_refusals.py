@@ -134,8 +134,8 @@ class Loads(Case):
             self.see(31, put(PAIR, (4, 'H', start), (8, 'B', 0)), 1,
                      f'byte 4: the table of rater 1 is said to start at byte {start}; expected byte 8, where the offsets end')
         for length in range(8, 12):
-            self.see(32, cut(length), 2, f'byte {length}: the book ends here; the table of rater 1 starts at byte 8, '
-                                         f'bytes missing from its header: {12 - length}')
+            self.see(32, cut(length), 2, 'byte 8: the table of rater 1 starts here and its header ends at byte 12; '
+                                         f'the book ends at byte {length}, bytes missing: {12 - length}')
 
     def test_6_grades(self) -> None:
         for grades in (0, 41, 255):
@@ -149,18 +149,18 @@ class Loads(Case):
 
     def test_32_rows(self) -> None:
         for length in range(12, 24):
-            self.see(32, cut(length), 1, f'byte {length}: the book ends here; the table of rater 1 starts at byte 8, '
-                                         f'bytes missing from its rows: {24 - length}')
-        self.see(32, put(PAIR, (8, 'B', 40), (6, 'H', 0)), 1, f'byte {len(PAIR)}:')
+            self.see(32, cut(length), 1, 'byte 8: the table of rater 1 starts here and its rows end at byte 24; '
+                                         f'the book ends at byte {length}, bytes missing: {24 - length}')
+        self.see(32, put(PAIR, (8, 'B', 40), (6, 'H', 0)), 1, 'its rows end at byte 492; the book ends at byte 52, bytes missing: 440')
 
     def test_31_and_32_of_the_second_table(self) -> None:
         for start in (0, 8, 23, 25):
             self.see(31, put(PAIR, (6, 'H', start), (24, 'B', 0)), 1,
                      f'byte 6: the table of rater 2 is said to start at byte {start}; expected byte 24, where the table of rater 1 ends')
         for length in range(24, 52):
-            part, end = ('header', 28) if length < 28 else ('rows', 52)
-            self.see(32, cut(length), 1, f'byte {length}: the book ends here; the table of rater 2 starts at byte 24, '
-                                         f'bytes missing from its {part}: {end - length}')
+            part_ends, end = ('header ends', 28) if length < 28 else ('rows end', 52)
+            self.see(32, cut(length), 1, f'byte 24: the table of rater 2 starts here and its {part_ends} at byte {end}; '
+                                         f'the book ends at byte {length}, bytes missing: {end - length}')
 
     def test_33_leftover(self) -> None:
         for over in (1, 12, 1000):  # before the rows

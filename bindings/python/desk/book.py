@@ -90,7 +90,7 @@ def raters_in(book: bytes) -> int:
 
 def table_at(book: bytes, start: int, rater: int) -> TableInBook:
     """The table at a byte, or 32 (header), 6, 7, 32 (rows)."""
-    end_within(book, start, rater, 'header', start + TABLE_HEAD)
+    end_within(book, start, rater, 'header ends', start + TABLE_HEAD)
     grades, kind, zeros = struct.unpack_from('<BBH', book, start)
     if not 1 <= grades <= MAX_GRADES:
         raise Refused(6, f'byte {start}: rater {rater} has {grades} grades; a table has 1 to {MAX_GRADES}')
@@ -101,15 +101,15 @@ def table_at(book: bytes, start: int, rater: int) -> TableInBook:
         raise Refused(7, f'byte {at}: rater {rater} has {book[at]} here; expected a zero byte')
     rows = start + TABLE_HEAD
     end = rows + ROW.size * grades
-    end_within(book, start, rater, 'rows', end)
+    end_within(book, start, rater, 'rows end', end)
     return TableInBook(rows, COUNTS[kind], list(ROW.iter_unpack(book[rows:end])))
 
 
-def end_within(book: bytes, start: int, rater: int, part: str, end: int) -> None:
+def end_within(book: bytes, start: int, rater: int, part_ends: str, end: int) -> None:
     """32, where a part of the table at a byte runs past the end of the book."""
     if end > len(book):
-        raise Refused(32, f'byte {len(book)}: the book ends here; the table of rater {rater} starts at byte {start}, '
-                          f'bytes missing from its {part}: {end - len(book)}')
+        raise Refused(32, f'byte {start}: the table of rater {rater} starts here and its {part_ends} at byte {end}; '
+                          f'the book ends at byte {len(book)}, bytes missing: {end - len(book)}')
 
 
 def row_refusals(tables: Sequence[TableInBook], rater: int) -> Iterator[Refused]:

@@ -1,6 +1,6 @@
 //! The answers print as those of the Python module do.
 
-use desk::{Cut, Fraction, Measures, PooledGrade, Price, Refusal, Table, Verdict};
+use desk::{Fraction, Measures, PooledGrade, Price, Refusal, Table, Verdict, WrongCut};
 use reference::random::Random;
 use std::fmt::Display;
 use std::process::Command;
@@ -166,7 +166,7 @@ fn cut_books() -> Vec<Vec<u8>> {
 fn cuts() {
     let mut cases = Vec::new();
     for book in cut_books() {
-        if let Some(cut) = Cut::find(&book) {
+        if let Some(cut) = WrongCut::find(&book) {
             let words = format!("{}; {cut}", cut.refusal());
             cases.push(case(format!("refused(bytes({book:?}))"), words));
         }

@@ -1,6 +1,6 @@
 //! compare BOOK BOOK [RATER RATER]: says which of two rating scales over the same obligors is better.
 
-use desk::{Cut, Desk, Place, Price, Refusal, Verdict};
+use desk::{Desk, Place, Price, Refusal, Verdict, WrongCut};
 use std::error::Error;
 use std::process::ExitCode;
 
@@ -13,7 +13,7 @@ fn load(desk: &mut Desk, place: Place, path: &str, rater: &str) -> Result<(), Bo
 
 /// Why a book was refused, and where it is cut wrong if that is why.
 fn in_words(refusal: Refusal, book: &[u8]) -> String {
-    match Cut::find(book).filter(|cut| cut.refusal() == refusal) {
+    match WrongCut::find(book).filter(|cut| cut.refusal() == refusal) {
         Some(cut) => format!("{refusal}; {cut}"),
         None => refusal.to_string(),
     }

@@ -24,13 +24,12 @@
 //! ```
 //!
 //! A call is accepted, or refused with a [`Refusal`], which leaves the desk and every buffer as
-//! they were; of a book that is cut wrong, [`Cut`] says at which table and byte. No call on a desk
+//! they were; of a book that is cut wrong, [`WrongCut`] says at which table and byte. No call on a desk
 //! has state of its own, and none allocates, save those that return a `Vec` or take a [`Table`].
 //! Every answer prints in words or numbers; a width and an alignment are honoured, and a precision
 //! is the number of decimal places.
 
 mod answer;
-mod cut;
 mod desk;
 mod fraction;
 mod place;
@@ -40,9 +39,9 @@ mod table;
 mod text;
 mod verdict;
 mod version;
+mod wrong_cut;
 
 pub use answer::{Cutoff, Grade, Measures, PooledGrade, Price, Spread};
-pub use cut::Cut;
 pub use fraction::Fraction;
 pub use place::Place;
 pub use refusal::{Refusal, UnknownNumber};
@@ -50,6 +49,7 @@ pub use sys::Desk;
 pub use table::Table;
 pub use verdict::Verdict;
 pub use version::VERSION;
+pub use wrong_cut::WrongCut;
 
 /// The most grades of a table.
 pub const GRADES: usize = 40;

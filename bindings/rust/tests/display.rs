@@ -1,7 +1,8 @@
 //! What prints: the same texts as in Python's module.
 
 use desk::{
-    Cut, Cutoff, Fraction, Grade, Measures, Place, PooledGrade, Price, Refusal, Spread, Verdict,
+    Cutoff, Fraction, Grade, Measures, Place, PooledGrade, Price, Refusal, Spread, Verdict,
+    WrongCut,
 };
 
 fn fraction(numerator: i64, denominator: i64) -> Fraction {
@@ -86,7 +87,7 @@ fn a_width_pads_and_nothing_is_cut() {
         format!("[{:-<24}]", Refusal::Empty),
         "[refused 22: place empty-]"
     );
-    let cut = Cut::Leftover {
+    let cut = WrongCut::Leftover {
         rater: 2,
         end: 52,
         bytes: 1,

@@ -11,4 +11,4 @@ pub mod Books
 pub mod Back
 pub mod RoundTrip
 pub mod Again
-pub mod Cuts
+pub mod WrongCut

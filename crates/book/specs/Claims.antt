@@ -11,7 +11,7 @@ use Rattle.table.specs.Place.{gradeAt, tableOf, blank, placeOf}
 use Rattle.book.specs.Bytes.{Byte, fourAt}
 use Rattle.book.specs.Checks.{fault}
 use Rattle.book.specs.Layout.{raters, startOf, gradesAt, kindAt, headChecks, layoutFault}
-use Rattle.book.specs.Cuts.{Cut}
+use Rattle.book.specs.WrongCut.{WrongCut}
 use Rattle.book.specs.Rows.{tableOfRater, tablesIn}
 use Rattle.book.specs.Reading.{readFault}
 use Rattle.book.specs.Encode.{encode}
@@ -53,12 +53,12 @@ ReadBookWritesBack =
     → encode (tablesIn b 1 (raters b)) ≡ b
 
 -- A book that is cut wrong is refused with the number of the cut, whichever of its raters is wanted.
-abbrev pub CutsAreTold : Type 0
-CutsAreTold = (b : List ℕ) (j n : ℕ) → fault (headChecks b) ≡ 0 → 1 ≤ j → j ≤ raters b → Cut b n → readFault b j ≡ n
+abbrev pub WrongCutsAreTold : Type 0
+WrongCutsAreTold = (b : List ℕ) (j n : ℕ) → fault (headChecks b) ≡ 0 → 1 ≤ j → j ≤ raters b → WrongCut b n → readFault b j ≡ n
 
 -- The other way: a number from 31 on is given for such a cut, and for nothing else.
-abbrev pub CutsAreMeant : Type 0
-CutsAreMeant = (b : List ℕ) (j n : ℕ) → 31 ≤ n → readFault b j ≡ n → Cut b n
+abbrev pub WrongCutsAreMeant : Type 0
+WrongCutsAreMeant = (b : List ℕ) (j n : ℕ) → 31 ≤ n → readFault b j ≡ n → WrongCut b n
 
 -- All of them: what the function `claims` of this crate promises.
 pub record Claims : Type 0 where
@@ -66,5 +66,5 @@ pub record Claims : Type 0 where
   pub first-column-is-of-its-kind : FirstColumnIsOfItsKind
   pub written-book-reads-back : WrittenBookReadsBack
   pub read-book-writes-back : ReadBookWritesBack
-  pub cuts-are-told : CutsAreTold
-  pub cuts-are-meant : CutsAreMeant
+  pub wrong-cuts-are-told : WrongCutsAreTold
+  pub wrong-cuts-are-meant : WrongCutsAreMeant

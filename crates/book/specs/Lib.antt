@@ -1,7 +1,7 @@
 pub mod Bytes
 pub mod Checks
 pub mod Layout
-pub mod Cuts
+pub mod WrongCut
 pub mod Rows
 pub mod Reading
 pub mod Encode

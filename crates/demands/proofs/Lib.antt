@@ -1,5 +1,6 @@
 pub mod History
 pub mod Faults
+pub mod WrongCuts
 pub mod Kept
 pub mod Accepted
 pub mod Verdicts

@@ -2,12 +2,15 @@
 -- The contract of `demands` in src/lib.rt is all of them, so that the crate is refused where one is not proved.
 use Prim.Native.Nat.{ℕ, _-_, _≤_}
 use mathlib.Core.Path.{_≡_}
+use mathlib.Core.Bool.{false}
 use mathlib.Core.Logic.{_⊎_}
 use mathlib.Core.List.{List, [], _∷_, _++_}
 use lib.ListN.{length, drop, take, getD}
 use Rattle.table.specs.Table.{Table, Every, Sound, defaultsIn, survivorsIn}
 use Rattle.book.specs.Bytes.{Byte}
-use Rattle.book.specs.Layout.{raters, startOf, kindAt, layoutFault}
+use Rattle.book.specs.Checks.{fault}
+use Rattle.book.specs.Layout.{raters, startOf, kindAt, headChecks, layoutFault}
+use Rattle.book.specs.WrongCut.{WrongCut}
 use Rattle.book.specs.Rows.{tablesIn}
 use Rattle.book.specs.Encode.{bookSize}
 use Rattle.book.specs.Claims as book
@@ -18,10 +21,10 @@ use Rattle.cutoff.specs.declared.Verdict.{Verdict}
 use Rattle.cutoff.specs.Claims as cutoff
 use Rattle.measures.specs.Claims as measuring
 use Rattle.calls.specs.Answers.{Answer, accepted, refused}
-use Rattle.calls.specs.Calls.{Question, measures, pool}
+use Rattle.calls.specs.Calls.{Question, measures, pool, load}
 use Rattle.desk.specs.declared.Desk.{Desk}
-use Rattle.desk.specs.Desk.{tableAt, SoundDesk}
-use Rattle.desk.specs.Calls.{Call, ask, fill, write, numberOf, after, lent, lentAfter, lentSize, loadedTables, Compares}
+use Rattle.desk.specs.Desk.{placeAt, tableAt, SoundDesk}
+use Rattle.desk.specs.Calls.{Call, ask, fill, write, change, numberOf, after, lent, lentAfter, lentSize, loadedTables, Compares}
 use Rattle.demands.specs.History.{deskAfter, nothing, table, filled, held, placed, numbers, Keeps}
 
 -- What calls leave.
@@ -49,6 +52,16 @@ OneOf n (m ∷ l) = (n ≡ m) ⊎ OneOf n l
 -- "Every input to any entry point ends in a result or one of its refusal numbers."
 abbrev pub EveryCallIsAnswered : Type 0
 EveryCallIsAnswered = (d : Desk) (c : Call) → (numberOf d c ≡ 0) ⊎ OneOf (numberOf d c) (numbers c)
+
+-- R-2, of load into an empty place: a book that is cut wrong is refused with the number of the cut, whichever of its raters is wanted;
+abbrev pub LoadTellsWrongCuts : Type 0
+LoadTellsWrongCuts =
+    (d : Desk) (i j n : ℕ) (b : List ℕ) → 1 ≤ i → i ≤ 2 → placeAt d i .loaded ≡ false
+    → fault (headChecks b) ≡ 0 → 1 ≤ j → j ≤ raters b → WrongCut b n → numberOf d (change i (load b j)) ≡ n
+
+-- and of any load, a number from 31 on is given for such a cut alone.
+abbrev pub LoadMeansWrongCuts : Type 0
+LoadMeansWrongCuts = (d : Desk) (i j n : ℕ) (b : List ℕ) → 31 ≤ n → numberOf d (change i (load b j)) ≡ n → WrongCut b n
 
 -- R-2: "5 is never given again."
 abbrev pub FiveIsNeverGiven : Type 0
@@ -145,6 +158,8 @@ pub record Demands : Type 0 where
   pub places-hold-what-was-loaded : PlacesHoldWhatWasLoaded
   pub every-held-table-is-sound : EveryHeldTableIsSound
   pub every-call-is-answered : EveryCallIsAnswered
+  pub load-tells-wrong-cuts : LoadTellsWrongCuts
+  pub load-means-wrong-cuts : LoadMeansWrongCuts
   pub five-is-never-given : FiveIsNeverGiven
   pub questions-are-of-tables : QuestionsAreOfTables
   pub refusals-change-nothing : RefusalsChangeNothing

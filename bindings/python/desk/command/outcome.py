@@ -9,7 +9,7 @@ from ..refusals import MEANINGS, Refused
 class Complaint(NamedTuple):
     """Something that is refused: its number where load or another call refuses it too, the place, and why."""
     number: int | None
-    where: str  # the file, and the line or byte in it
+    where: str  # the file, of CSV with the line in it
     why: str
 
     @property

@@ -3,7 +3,7 @@ use Rattle.book.proofs.Accept.{accepted}
 use Rattle.book.proofs.Columns.{first-column}
 use Rattle.book.proofs.RoundTrip.{round-trip}
 use Rattle.book.proofs.Again.{written-again}
-use Rattle.book.proofs.Cuts.{cut-told, cut-meant}
+use Rattle.book.proofs.WrongCut.{cut-told, cut-meant}
 use Rattle.book.proofs.claims.Statement.{statement}
 use Rattle.book.proofs.claims.Tie as tie
 
@@ -13,8 +13,8 @@ returns c = record {
   first-column-is-of-its-kind = first-column;
   written-book-reads-back = round-trip;
   read-book-writes-back = written-again;
-  cuts-are-told = cut-told;
-  cuts-are-meant = cut-meant;
+  wrong-cuts-are-told = cut-told;
+  wrong-cuts-are-meant = cut-meant;
 }
 
 pub claims-spec : {M : Type 1} → statement M

@@ -8,6 +8,7 @@ use Rattle.measures.proofs.Claimed as measures
 use Rattle.desk.proofs.Asked.{asked-sound}
 use Rattle.demands.proofs.History.{places-hold, tables-sound, desk-sound}
 use Rattle.demands.proofs.Faults.{answered, never-five}
+use Rattle.demands.proofs.WrongCuts.{load-tells, load-means}
 use Rattle.demands.proofs.Kept.{refused-kept, written-only, others-kept}
 use Rattle.demands.proofs.Accepted.{regression-written, measured-mixed, loads-back, writes-back}
 use Rattle.demands.proofs.Verdicts.{compare-right}
@@ -20,6 +21,8 @@ returns c = record {
   places-hold-what-was-loaded = places-hold;
   every-held-table-is-sound = tables-sound;
   every-call-is-answered = answered;
+  load-tells-wrong-cuts = load-tells;
+  load-means-wrong-cuts = load-means;
   five-is-never-given = never-five;
   questions-are-of-tables = asked-sound;
   refusals-change-nothing = refused-kept;

@@ -1,6 +1,6 @@
 //! Where the plain version's damaged books are cut wrong: just where the library says that they are.
 
-use desk::{Cut, Desk, sys};
+use desk::{Desk, WrongCut, sys};
 use reference::damage::WAYS;
 use reference::draft::Draft;
 use reference::population::any_table;
@@ -19,7 +19,7 @@ fn is_cut(number: u32) -> bool {
 
 /// The number of the cut that is found, or 0.
 fn found(book: &[u8]) -> u32 {
-    Cut::find(book).map_or(0, |cut| cut.refusal().number())
+    WrongCut::find(book).map_or(0, |cut| cut.refusal().number())
 }
 
 /// A book with this many faults, or a few less where one hides another.

@@ -13,9 +13,11 @@ use Rattle.book.specs.Checks.{equal, fault, firstFault}
 use Rattle.book.specs.Layout.{raters, endOf, leftoverFault, headChecks, raterChecks, tableChecks, tablesFaultFrom, tablesFault}
 use Rattle.book.specs.Rows.{rowChecks, totalChecks, tableFault, tableOfRater}
 use Rattle.book.specs.Reading.{readFault}
-use Rattle.book.specs.Cuts.{endAfter, Laid, FirstLaid, Cut, elsewhere, header, rows, leftover}
+use Rattle.book.specs.WrongCut.{endAfter, Laid, FirstLaid, WrongCut, elsewhere, header, rows, leftover}
 use Rattle.book.proofs.Checks.{Finds, found, none, pass, same, over, other, finds, held, stop, go, first-none, first-some}
 use Rattle.book.proofs.Numbers.{allPass, fault-passes, first-passes, rows-pass}
+
+-- What is cut wrong is told.
 
 module _ (b : List ℕ) where
   passes : (k : ℕ) → Laid b k → fault (tableChecks b (suc k) (endAfter b k)) ≡ 0
@@ -38,7 +40,7 @@ module _ (b : List ℕ) where
   unfolding tablesFaultFrom
   stops k n p h e some = stop _ e some ∙ behind k (suc (raters b - suc k)) (omega arith) p
 
-  told : {n : ℕ} → Cut b n → n ≡ tablesFault b
+  told : {n : ℕ} → WrongCut b n → n ≡ tablesFault b
   unfolding tableChecks tablesFaultFrom endAfter
   told (elsewhere k p h e) = stops k 31 p h (found (other e)) (λ z. omega arith)
   told (header k p h s e) = stops k 32 p h (found (same s (over e))) (λ z. omega arith)
@@ -49,9 +51,12 @@ module _ (b : List ℕ) where
       (λ z. omega arith)
   told (leftover p e) = found (other (λ z. omega arith)) ∙ behind (raters b) 0 (add-zero (raters b)) p
 
+-- What is told is cut wrong.
+
+module _ (b : List ℕ) where
   -- What the checks of the next table find: a cut, a number below 31, or nothing.
   data Next (k : ℕ) : ℕ → Type 0 where
-    cut : {n : ℕ} → Cut b n → Next k n
+    cut : {n : ℕ} → WrongCut b n → Next k n
     low : (n : ℕ) → 1 ≤ n → n < 31 → Next k n
     laid : Laid b k → Next k 0
 
@@ -68,21 +73,21 @@ module _ (b : List ℕ) where
   next k p h (same s (pass w (pass g (pass f (pass d (same z (pass i none))))))) =
       laid (record { headed = record { start = s; whole = w; some = g; few = f; kind = d; zeros = z }; inside = rw s i })
 
-  high : {n : ℕ} → Cut b n → 31 ≤ n
+  high : {n : ℕ} → WrongCut b n → 31 ≤ n
   high (elsewhere k p h e) = omega arith
   high (header k p h s e) = omega arith
   high (rows k p h t e) = omega arith
   high (leftover p e) = omega arith
 
   -- a number from 31 on that the first of two faults has
-  meant-next : {k x n : ℕ} (rest : ℕ) → Next k x → 31 ≤ n → firstFault x rest ≡ n → (Laid b k → rest ≡ n → Cut b n) → Cut b n
+  meant-next : {k x n : ℕ} (rest : ℕ) → Next k x → 31 ≤ n → firstFault x rest ≡ n → (Laid b k → rest ≡ n → WrongCut b n) → WrongCut b n
   unfolding firstFault
   meant-next rest (cut {n = x} c) h e go = let s = first-some x rest (λ z. omega (arith, high c)) in rw (← (sym s ∙ e)) c
   meant-next rest (low x s l) h e go = absurd (omega (arith, first-some x rest (λ z. omega arith)))
   meant-next rest (laid t) h e go = go t e
 
   meant-last : {n x : ℕ} → FirstLaid b (raters b) → endAfter b (raters b) ≤ length b → 31 ≤ n
-      → Finds (equal (endAfter b (raters b)) (length b) leftoverFault ∷ []) x → x ≡ n → Cut b n
+      → Finds (equal (endAfter b (raters b)) (length b) leftoverFault ∷ []) x → x ≡ n → WrongCut b n
   meant-last p inside h (other e) f = rw (← f) (leftover p (omega arith))
   meant-last p inside h (same e none) f = absurd (omega arith)
 
@@ -90,7 +95,7 @@ module _ (b : List ℕ) where
   one-more k p t i l = elim (decLe (suc i) k) [ yes lt ↦ p i lt | no ge ↦ let s : i ≡ k = omega arith in rw s t ]
 
   meant : (m k n : ℕ) → k + m ≡ raters b → FirstLaid b k → endAfter b k ≤ length b → 31 ≤ n
-      → tablesFaultFrom b m (suc k) (endAfter b k) ≡ n → Cut b n
+      → tablesFaultFrom b m (suc k) (endAfter b k) ≡ n → WrongCut b n
   unfolding tablesFaultFrom endAfter
   meant zero k n e p inside h f =
       let all : k ≡ raters b = omega arith in
@@ -105,11 +110,11 @@ module _ (b : List ℕ) where
 
 -- Every other check has a number below 31.
 
-abbrev isLow : ℕ → Bool
+abbrev pub isLow : ℕ → Bool
 isLow n = ltb n 31
 
 -- of two faults, the one that is not low
-second : (n m r : ℕ) → T (isLow n) → 31 ≤ r → firstFault n m ≡ r → (n ≡ 0) × (m ≡ r)
+pub second : (n m r : ℕ) → T (isLow n) → 31 ≤ r → firstFault n m ≡ r → (n ≡ 0) × (m ≡ r)
 unfolding firstFault
 second zero m r h k e = (refl, e)
 second (suc n) m r h k e = absurd (omega (arith, ltb→lt (suc n) 31 h))
@@ -123,12 +128,12 @@ low-table : (t : Table) → T (isLow (tableFault t))
 unfolding tableFault rowChecks totalChecks allPass
 low-table t = first-passes isLow _ _ (rows-pass isLow tt (λ g. tt) t) (fault-passes isLow (totalChecks t) tt)
 
-pub cut-told : (b : List ℕ) (j n : ℕ) → fault (headChecks b) ≡ 0 → 1 ≤ j → j ≤ raters b → Cut b n → readFault b j ≡ n
+pub cut-told : (b : List ℕ) (j n : ℕ) → fault (headChecks b) ≡ 0 → 1 ≤ j → j ≤ raters b → WrongCut b n → readFault b j ≡ n
 unfolding readFault raterChecks
 cut-told b j n h some few c =
     sym (go h (go (sym (found (pass some (pass few none)))) (stop _ (told b c) (λ z. omega (arith, high b c)))))
 
-pub cut-meant : (b : List ℕ) (j n : ℕ) → 31 ≤ n → readFault b j ≡ n → Cut b n
+pub cut-meant : (b : List ℕ) (j n : ℕ) → 31 ≤ n → readFault b j ≡ n → WrongCut b n
 unfolding readFault headChecks raterChecks allPass endAfter
 cut-meant b j n h e =
     let head = second _ _ n (fault-passes isLow (headChecks b) tt) h e in

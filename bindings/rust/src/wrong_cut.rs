@@ -13,13 +13,13 @@ use std::fmt;
 /// `share/doc/desk` where installed, `docs` in the sources).
 ///
 /// ```
-/// use desk::{Cut, Desk, Place, Refusal, Table};
+/// use desk::{WrongCut, Desk, Place, Refusal, Table};
 ///
 /// let table = Table::by_obligors().grade(5, 2, 400_000);
 /// let mut book = Table::book(&[table.clone(), table])?;
 /// book[6] += 12; // the low byte of where the table of rater 2 starts
 /// let refused = Desk::empty().load(Place::First, &book, 1).expect_err("it does not start there");
-/// let cut = Cut::find(&book).expect("it is cut wrong");
+/// let cut = WrongCut::find(&book).expect("it is cut wrong");
 /// assert_eq!((refused, cut.refusal()), (Refusal::TableStart, Refusal::TableStart));
 /// assert_eq!(
 ///     cut.to_string(),
@@ -29,7 +29,7 @@ use std::fmt;
 /// ```
 #[derive(Clone, Copy, Debug, PartialEq, Eq, Hash)]
 #[non_exhaustive]
-pub enum Cut {
+pub enum WrongCut {
     /// 31 ([`Refusal::TableStart`]): a table starts in the wrong place.
     Start {
         /// Whose table.
@@ -63,23 +63,23 @@ pub enum Cut {
     },
 }
 
-impl Cut {
+impl WrongCut {
     /// Where a book is cut wrong, if that is why load refuses its raters: with 31, 32 or 33. A rater
     /// that the book does not have is refused before, with 4.
     ///
     /// ```
-    /// use desk::{Cut, Table};
+    /// use desk::{WrongCut, Table};
     ///
     /// let mut book = Table::book(&[Table::by_obligors().grade(5, 2, 400_000)])?;
-    /// assert_eq!(Cut::find(&book), None);
+    /// assert_eq!(WrongCut::find(&book), None);
     /// book[6] = 2; // grades of rater 1, and the rows of one are there
-    /// assert_eq!(Cut::find(&book), Some(Cut::End { rater: 1, start: 6, end: 34, length: 22 }));
+    /// assert_eq!(WrongCut::find(&book), Some(WrongCut::End { rater: 1, start: 6, end: 34, length: 22 }));
     /// book.pop();
-    /// assert_eq!(Cut::find(&book), None, "the length that the book states is looked at before");
+    /// assert_eq!(WrongCut::find(&book), None, "the length that the book states is looked at before");
     /// # Ok::<(), desk::Refusal>(())
     /// ```
     #[must_use]
-    pub fn find(book: &[u8]) -> Option<Cut> {
+    pub fn find(book: &[u8]) -> Option<WrongCut> {
         // Load checks all of the layout whichever rater it loads, and rater 1 is in every book.
         let number = sys::load(&mut Desk::empty(), Place::First.into(), book, 1);
         first_cut(book).filter(|cut| cut.refusal().number() == number)
@@ -88,17 +88,17 @@ impl Cut {
     /// What load refuses the book with.
     ///
     /// ```
-    /// use desk::{Cut, Refusal};
+    /// use desk::{WrongCut, Refusal};
     ///
-    /// let cut = Cut::Leftover { rater: 1, end: 22, bytes: 3 };
+    /// let cut = WrongCut::Leftover { rater: 1, end: 22, bytes: 3 };
     /// assert_eq!(cut.refusal(), Refusal::Leftover);
     /// ```
     #[must_use]
     pub const fn refusal(self) -> Refusal {
         match self {
-            Cut::Start { .. } => Refusal::TableStart,
-            Cut::End { .. } => Refusal::TableEnd,
-            Cut::Leftover { .. } => Refusal::Leftover,
+            WrongCut::Start { .. } => Refusal::TableStart,
+            WrongCut::End { .. } => Refusal::TableEnd,
+            WrongCut::Leftover { .. } => Refusal::Leftover,
         }
     }
 }
@@ -109,14 +109,14 @@ const TABLE_HEAD: usize = 4;
 const ROW: usize = 12;
 
 /// Follows the tables, each from where the last one ended, in the order of load.
-fn first_cut(book: &[u8]) -> Option<Cut> {
+fn first_cut(book: &[u8]) -> Option<WrongCut> {
     let (raters, length) = (number_at(book, 0)?, book.len());
     let offsets = (HEAD..).step_by(OFFSET);
     let mut last_end = HEAD + OFFSET * usize::from(raters);
     for (rater, byte) in (1..=raters.into()).zip(offsets) {
         let (start, expected) = (number_at(book, byte)?.into(), last_end);
         if start != expected {
-            return Some(Cut::Start {
+            return Some(WrongCut::Start {
                 rater,
                 byte,
                 start,
@@ -125,7 +125,7 @@ fn first_cut(book: &[u8]) -> Option<Cut> {
         }
         let end = table_end(book, start);
         if end > length {
-            return Some(Cut::End {
+            return Some(WrongCut::End {
                 rater,
                 start,
                 end,
@@ -134,7 +134,7 @@ fn first_cut(book: &[u8]) -> Option<Cut> {
         }
         last_end = end;
     }
-    (last_end < length).then(|| Cut::Leftover {
+    (last_end < length).then(|| WrongCut::Leftover {
         rater: raters.into(),
         end: last_end,
         bytes: length - last_end,
@@ -166,10 +166,10 @@ fn before(rater: u32) -> String {
 
 /// In words, the byte to look at first: `byte 22: the table of rater 1, the last, ends here; bytes
 /// that follow it: 3, expected none`.
-impl fmt::Display for Cut {
+impl fmt::Display for WrongCut {
     fn fmt(&self, out: &mut fmt::Formatter) -> fmt::Result {
         let words = match *self {
-            Cut::Start {
+            WrongCut::Start {
                 rater,
                 byte,
                 start,
@@ -179,21 +179,25 @@ impl fmt::Display for Cut {
                 let before = before(rater);
                 format!("byte {byte}: {said}; expected byte {expected}, where {before}")
             }
-            Cut::End {
+            WrongCut::End {
                 rater,
                 start,
                 end,
                 length,
             } => {
                 let has_header = length >= start.saturating_add(TABLE_HEAD);
-                let part = if has_header { "rows" } else { "header" };
+                let part_ends = if has_header {
+                    "rows end"
+                } else {
+                    "header ends"
+                };
+                let starts = format!("byte {start}: the table of rater {rater} starts here");
                 let missing = end.saturating_sub(length);
-                let starts = format!("the table of rater {rater} starts at byte {start}");
                 format!(
-                    "byte {length}: the book ends here; {starts}, bytes missing from its {part}: {missing}"
+                    "{starts} and its {part_ends} at byte {end}; the book ends at byte {length}, bytes missing: {missing}"
                 )
             }
-            Cut::Leftover { rater, end, bytes } => {
+            WrongCut::Leftover { rater, end, bytes } => {
                 let ends = format!("the table of rater {rater}, the last, ends here");
                 format!("byte {end}: {ends}; bytes that follow it: {bytes}, expected none")
             }

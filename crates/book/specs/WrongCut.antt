@@ -26,15 +26,16 @@ pub record Laid (b : List ℕ) (k : ℕ) : Type 0 where
   pub headed : Headed b k
   pub inside : endAfter b (suc k) ≤ length b
 
+-- the first k tables are so laid out
 abbrev pub FirstLaid : List ℕ → ℕ → Type 0
 FirstLaid b k = (i : ℕ) → i < k → Laid b i
 
--- a book that is cut wrong, and the number for it: the first k tables are laid out, and then
-pub data Cut (b : List ℕ) : ℕ → Type 0 where
+-- A book that is cut wrong, and the number for it. The tables before the cut are laid out.
+pub data WrongCut (b : List ℕ) : ℕ → Type 0 where
   -- "A table that starts elsewhere than where the last one ended now gives 31."
-  elsewhere : (k : ℕ) → FirstLaid b k → k < raters b → (startOf b (suc k) ≡ endAfter b k → ⊥) → Cut b 31
+  elsewhere : (k : ℕ) → FirstLaid b k → k < raters b → (startOf b (suc k) ≡ endAfter b k → ⊥) → WrongCut b 31
   -- "A table that runs past the end, in header or rows, gives 32."
-  header : (k : ℕ) → FirstLaid b k → k < raters b → startOf b (suc k) ≡ endAfter b k → length b < endAfter b k + 4 → Cut b 32
-  rows : (k : ℕ) → FirstLaid b k → k < raters b → Headed b k → length b < endAfter b (suc k) → Cut b 32
+  header : (k : ℕ) → FirstLaid b k → k < raters b → startOf b (suc k) ≡ endAfter b k → length b < endAfter b k + 4 → WrongCut b 32
+  rows : (k : ℕ) → FirstLaid b k → k < raters b → Headed b k → length b < endAfter b (suc k) → WrongCut b 32
   -- "Bytes after the last table give 33."
-  leftover : FirstLaid b (raters b) → endAfter b (raters b) < length b → Cut b 33
+  leftover : FirstLaid b (raters b) → endAfter b (raters b) < length b → WrongCut b 33

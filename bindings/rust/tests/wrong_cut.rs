@@ -1,6 +1,6 @@
 //! Where a book is cut wrong: which table, which byte, in words; and only where load says so.
 
-use desk::{Cut, Desk, Refusal, Table, sys};
+use desk::{Desk, Refusal, Table, WrongCut, sys};
 
 /// Tables of 2, 1 and 3 grades: from byte 10 to 38, from there to 54, and from there to 94.
 const TABLES: [(usize, usize); 3] = [(10, 38), (38, 54), (54, 94)];
@@ -39,8 +39,8 @@ fn loaded(book: &[u8]) -> u32 {
 }
 
 /// Where a book is cut wrong, which is nowhere unless load answers 31, 32 or 33.
-fn find(book: &[u8]) -> Option<Cut> {
-    let cut = Cut::find(book);
+fn find(book: &[u8]) -> Option<WrongCut> {
+    let cut = WrongCut::find(book);
     let number = loaded(book);
     let expected = (31..=33).contains(&number).then_some(number);
     let found = cut.map(|cut| cut.refusal().number());
@@ -48,7 +48,7 @@ fn find(book: &[u8]) -> Option<Cut> {
     cut
 }
 
-fn found(book: &[u8], cut: Cut, words: &str) {
+fn found(book: &[u8], cut: WrongCut, words: &str) {
     assert_eq!(find(book), Some(cut));
     assert_eq!(cut.to_string(), words);
 }
@@ -63,7 +63,7 @@ fn a_table_that_starts_elsewhere() {
     for (rater, ((expected, _), last)) in (1..).zip(TABLES.into_iter().zip(last)) {
         for start in [0, expected - 1, expected + 1, expected + 12, 94, 65_535] {
             let byte = 2 + 2 * rater;
-            let cut = Cut::Start {
+            let cut = WrongCut::Start {
                 rater: u32::try_from(rater).expect("few raters"),
                 byte,
                 start,
@@ -82,19 +82,19 @@ fn a_table_that_starts_elsewhere() {
 fn a_table_that_runs_past_the_end() {
     for (rater, (start, table_end)) in (1..).zip(TABLES) {
         for length in start..table_end {
-            let (part, end) = match length - start {
-                0..4 => ("header", start + 4),
-                _ => ("rows", table_end),
+            let (part_ends, end) = match length - start {
+                0..4 => ("header ends", start + 4),
+                _ => ("rows end", table_end),
             };
-            let cut = Cut::End {
+            let cut = WrongCut::End {
                 rater,
                 start,
                 end,
                 length,
             };
             let words = format!(
-                "byte {length}: the book ends here; the table of rater {rater} starts at byte {start}, \
-                 bytes missing from its {part}: {}",
+                "byte {start}: the table of rater {rater} starts here and its {part_ends} at byte {end}; \
+                 the book ends at byte {length}, bytes missing: {}",
                 end - length
             );
             found(&resized(whole(), length), cut, &words);
@@ -105,7 +105,7 @@ fn a_table_that_runs_past_the_end() {
 #[test]
 fn bytes_after_the_last_table() {
     for bytes in [1, 2, 12, 16, 65_441] {
-        let cut = Cut::Leftover {
+        let cut = WrongCut::Leftover {
             rater: 3,
             end: 94,
             bytes,
@@ -118,7 +118,7 @@ fn bytes_after_the_last_table() {
     let one = Table::book(&[Table::by_obligors().grade(5, 2, 0)]).expect("a valid table");
     found(
         &resized(one, 25),
-        Cut::Leftover {
+        WrongCut::Leftover {
             rater: 1,
             end: 22,
             bytes: 3,
@@ -147,13 +147,13 @@ fn a_wrong_count_of_grades() {
     assert_eq!(
         said(38, 40),
         words(
-            "byte 94: the book ends here; the table of rater 2 starts at byte 38, bytes missing from its rows: 428"
+            "byte 38: the table of rater 2 starts here and its rows end at byte 522; the book ends at byte 94, bytes missing: 428"
         )
     );
     assert_eq!(
         said(54, 4),
         words(
-            "byte 94: the book ends here; the table of rater 3 starts at byte 54, bytes missing from its rows: 12"
+            "byte 54: the table of rater 3 starts here and its rows end at byte 106; the book ends at byte 94, bytes missing: 12"
         )
     );
     assert_eq!(
@@ -168,11 +168,11 @@ fn a_wrong_count_of_grades() {
 #[test]
 fn of_two_faults_the_first() {
     let starts = |book: &[u8]| match find(book) {
-        Some(Cut::Start { rater, .. }) => rater,
+        Some(WrongCut::Start { rater, .. }) => rater,
         other => panic!("{other:?}"),
     };
     let ends = |book: &[u8]| match find(book) {
-        Some(Cut::End { rater, end, .. }) => (rater, end),
+        Some(WrongCut::End { rater, end, .. }) => (rater, end),
         other => panic!("{other:?}"),
     };
     let one = moved(whole(), 1, 11);
@@ -293,22 +293,22 @@ fn damaged_books() {
 }
 
 /// A book with the first cut mended as its words say.
-fn mended(book: Vec<u8>, cut: Cut) -> Vec<u8> {
+fn mended(book: Vec<u8>, cut: WrongCut) -> Vec<u8> {
     match cut {
-        Cut::Start { byte, expected, .. } => with(book, byte, &two_bytes(expected)),
-        Cut::End { end, .. } | Cut::Leftover { end, .. } => resized(book, end),
+        WrongCut::Start { byte, expected, .. } => with(book, byte, &two_bytes(expected)),
+        WrongCut::End { end, .. } | WrongCut::Leftover { end, .. } => resized(book, end),
         _ => panic!("no such cut: {cut:?}"),
     }
 }
 
 /// How far load gets: the rater, and its start, its header, its rows, and what follows.
-fn reached(cut: Cut) -> (u32, usize) {
+fn reached(cut: WrongCut) -> (u32, usize) {
     match cut {
-        Cut::Start { rater, .. } => (rater, 0),
-        Cut::End {
+        WrongCut::Start { rater, .. } => (rater, 0),
+        WrongCut::End {
             rater, start, end, ..
         } => (rater, end - start),
-        Cut::Leftover { rater, .. } => (rater, usize::MAX),
+        WrongCut::Leftover { rater, .. } => (rater, usize::MAX),
         _ => panic!("no such cut: {cut:?}"),
     }
 }
@@ -319,7 +319,7 @@ fn what_it_says_mends_the_book() {
     let mut most = 0;
     for _ in 0..20_000 {
         let mut book = damaged(&mut random);
-        let mut cuts: Vec<Cut> = Vec::new();
+        let mut cuts: Vec<WrongCut> = Vec::new();
         while let Some(cut) = find(&book) {
             let further = cuts.last().is_none_or(|last| reached(*last) < reached(cut));
             assert!(further, "{cuts:?}, then {cut:?}");
@@ -343,25 +343,25 @@ fn any_cut_prints() {
         for rater in [0, 1, 2, u32::MAX] {
             let (start, end) = (one, other);
             let cuts = [
-                Cut::Start {
+                WrongCut::Start {
                     rater,
                     byte: one,
                     start,
                     expected: other,
                 },
-                Cut::End {
+                WrongCut::End {
                     rater,
                     start,
                     end,
                     length: one,
                 },
-                Cut::End {
+                WrongCut::End {
                     rater,
                     start,
                     end: one,
                     length: other,
                 },
-                Cut::Leftover {
+                WrongCut::Leftover {
                     rater,
                     end,
                     bytes: one,
