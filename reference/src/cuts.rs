@@ -11,37 +11,33 @@ use crate::table::MAX_GRADES;
 /// Damage at the table of this index.
 type CutAt = fn(&mut Random, &mut Draft, usize);
 
+/// Ways to make a table start elsewhere, each as often as its number says: the first table, and one
+/// behind another.
+const FIRST_ELSEWHERE: &[(u64, CutAt)] = &[(3, misstate_offset), (1, leave_gap)];
+const LATER_ELSEWHERE: &[(u64, CutAt)] = &[
+    (4, misstate_offset),
+    (2, leave_gap),
+    (2, lose_bytes_before),
+    (2, miscount_before),
+    (2, regrade_before),
+    (1, paste_before),
+    (1, lose_table_before),
+];
+/// Those that leave all tables whole.
+const LATER_ELSEWHERE_WHOLE: &[(u64, CutAt)] =
+    &[(3, misstate_offset), (1, leave_gap), (2, regrade_before)];
+
 /// 31.
 pub fn start_elsewhere(random: &mut Random, draft: &mut Draft, index: usize) {
-    let of_any_table = [(3, misstate_offset as CutAt), (1, leave_gap)];
-    let behind_another = [
-        (4, misstate_offset as CutAt),
-        (2, leave_gap),
-        (2, lose_bytes_before),
-        (2, miscount_before),
-        (2, regrade_before),
-        (1, paste_before),
-        (1, lose_table_before),
-    ];
-    let way = match index {
-        0 => random.weighted(&of_any_table),
-        _ => random.weighted(&behind_another),
-    };
+    let later = LATER_ELSEWHERE;
+    let way = random.weighted(if index == 0 { FIRST_ELSEWHERE } else { later });
     way(random, draft, index);
 }
 
 /// 31; all tables stay whole, so that one of them can run past the end besides.
 pub(crate) fn start_elsewhere_whole(random: &mut Random, draft: &mut Draft, index: usize) {
-    let of_any_table = [(3, misstate_offset as CutAt), (1, leave_gap)];
-    let behind_another = [
-        (3, misstate_offset as CutAt),
-        (1, leave_gap),
-        (2, regrade_before),
-    ];
-    let way = match index {
-        0 => random.weighted(&of_any_table),
-        _ => random.weighted(&behind_another),
-    };
+    let later = LATER_ELSEWHERE_WHOLE;
+    let way = random.weighted(if index == 0 { FIRST_ELSEWHERE } else { later });
     way(random, draft, index);
 }
 

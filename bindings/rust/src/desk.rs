@@ -55,7 +55,8 @@ impl Desk {
     /// 32 ([`Refusal::TableEnd`]) of its rows; then 33 ([`Refusal::Leftover`]); then row by row of
     /// this rater 8 ([`Refusal::Defaults`]), 9 ([`Refusal::NoObligors`]),
     /// 10 ([`Refusal::Announced`]); then 11 ([`Refusal::Obligors`]). Where a table is not in its
-    /// place, or bytes follow the last, [`WrongCut::find`](crate::WrongCut::find) says at which table and byte.
+    /// place, or bytes follow the last, [`WrongCut::find`](crate::WrongCut::find) says at which
+    /// table and byte.
     pub fn load(&mut self, place: Place, book: &[u8], rater: u32) -> Result<(), Refusal> {
         accepted(sys::load(self, place.into(), book, rater))
     }

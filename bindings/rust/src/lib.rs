@@ -24,10 +24,10 @@
 //! ```
 //!
 //! A call is accepted, or refused with a [`Refusal`], which leaves the desk and every buffer as
-//! they were; of a book that is cut wrong, [`WrongCut`] says at which table and byte. No call on a desk
-//! has state of its own, and none allocates, save those that return a `Vec` or take a [`Table`].
-//! Every answer prints in words or numbers; a width and an alignment are honoured, and a precision
-//! is the number of decimal places.
+//! they were; of a book that is cut wrong, [`WrongCut`] says at which table and byte. No call on a
+//! desk has state of its own, and none allocates, save those that return a `Vec` or take a
+//! [`Table`]. Every answer prints in words or numbers; a width and an alignment are honoured, and a
+//! precision is the number of decimal places.
 
 mod answer;
 mod desk;

@@ -13,7 +13,7 @@ use std::fmt;
 /// `share/doc/desk` where installed, `docs` in the sources).
 ///
 /// ```
-/// use desk::{WrongCut, Desk, Place, Refusal, Table};
+/// use desk::{Desk, Place, Refusal, Table, WrongCut};
 ///
 /// let table = Table::by_obligors().grade(5, 2, 400_000);
 /// let mut book = Table::book(&[table.clone(), table])?;
@@ -68,7 +68,7 @@ impl WrongCut {
     /// that the book does not have is refused before, with 4.
     ///
     /// ```
-    /// use desk::{WrongCut, Table};
+    /// use desk::{Table, WrongCut};
     ///
     /// let mut book = Table::book(&[Table::by_obligors().grade(5, 2, 400_000)])?;
     /// assert_eq!(WrongCut::find(&book), None);
@@ -88,7 +88,7 @@ impl WrongCut {
     /// What load refuses the book with.
     ///
     /// ```
-    /// use desk::{WrongCut, Refusal};
+    /// use desk::{Refusal, WrongCut};
     ///
     /// let cut = WrongCut::Leftover { rater: 1, end: 22, bytes: 3 };
     /// assert_eq!(cut.refusal(), Refusal::Leftover);

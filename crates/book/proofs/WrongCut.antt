@@ -113,16 +113,16 @@ module _ (b : List ℕ) where
 abbrev pub isLow : ℕ → Bool
 isLow n = ltb n 31
 
--- of two faults, the one that is not low
-pub second : (n m r : ℕ) → T (isLow n) → 31 ≤ r → firstFault n m ≡ r → (n ≡ 0) × (m ≡ r)
+-- Of two faults, the one that is not low: the second where the first is low, the first where the second is.
+pub past-low : (n m r : ℕ) → T (isLow n) → 31 ≤ r → firstFault n m ≡ r → (n ≡ 0) × (m ≡ r)
 unfolding firstFault
-second zero m r h k e = (refl, e)
-second (suc n) m r h k e = absurd (omega (arith, ltb→lt (suc n) 31 h))
+past-low zero m r h k e = (refl, e)
+past-low (suc n) m r h k e = absurd (omega (arith, ltb→lt (suc n) 31 h))
 
-first : (n m r : ℕ) → T (isLow m) → 31 ≤ r → firstFault n m ≡ r → n ≡ r
+before-low : (n m r : ℕ) → T (isLow m) → 31 ≤ r → firstFault n m ≡ r → n ≡ r
 unfolding firstFault
-first zero m r h k e = absurd (omega (arith, ltb→lt m 31 h))
-first (suc n) m r h k e = e
+before-low zero m r h k e = absurd (omega (arith, ltb→lt m 31 h))
+before-low (suc n) m r h k e = e
 
 low-table : (t : Table) → T (isLow (tableFault t))
 unfolding tableFault rowChecks totalChecks allPass
@@ -136,8 +136,8 @@ cut-told b j n h some few c =
 pub cut-meant : (b : List ℕ) (j n : ℕ) → 31 ≤ n → readFault b j ≡ n → WrongCut b n
 unfolding readFault headChecks raterChecks allPass endAfter
 cut-meant b j n h e =
-    let head = second _ _ n (fault-passes isLow (headChecks b) tt) h e in
-    let rater = second _ _ n (fault-passes isLow (raterChecks b j) tt) h (head .1) in
-    let tables = first _ _ n (low-table (tableOfRater b j)) h (rater .1) in
+    let head = past-low _ _ n (fault-passes isLow (headChecks b) tt) h e in
+    let rater = past-low _ _ n (fault-passes isLow (raterChecks b j) tt) h (head .1) in
+    let tables = before-low _ _ n (low-table (tableOfRater b j)) h (rater .1) in
     let room = held (headChecks b) (head .0) in
     meant b (raters b) 0 n (omega arith) (λ i l. absurd (omega arith)) (omega arith) h tables

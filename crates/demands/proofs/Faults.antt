@@ -126,14 +126,18 @@ known d (change i c) = known-place (changeNumbers c) i _ (known-change (placeAt 
 pub answered : (d : Desk) (c : Call) → (numberOf d c ≡ 0) ⊎ OneOf (numberOf d c) (numbers c)
 answered d c = one-of (0 ∷ numbers c) (numberOf d c) (known d c)
 
-pub never-five : (d : Desk) (c : Call) → numberOf d c ≡ 5 → ⊥
+-- 5 is none of them.
+unlisted : (c : Call) → Known (numbers c) 5 → ⊥
 unfolding among
-never-five d (ask i (cheapest u v)) e = rw e at (known d (ask i (cheapest u v)))
-never-five d (ask i measures) e = rw e at (known d (ask i measures))
-never-five d (ask i brier) e = rw e at (known d (ask i brier))
-never-five d (ask i spread) e = rw e at (known d (ask i spread))
-never-five d compare e = rw e at (known d compare)
-never-five d (fill i pool out) e = rw e at (known d (fill i pool out))
-never-five d (write out) e = rw e at (known d (write out))
-never-five d (change i (load b j)) e = rw e at (known d (change i (load b j)))
-never-five d (change i clear) e = rw e at (known d (change i clear))
+unlisted (ask i (cheapest u v)) h = h
+unlisted (ask i measures) h = h
+unlisted (ask i brier) h = h
+unlisted (ask i spread) h = h
+unlisted compare h = h
+unlisted (fill i pool out) h = h
+unlisted (write out) h = h
+unlisted (change i (load b j)) h = h
+unlisted (change i clear) h = h
+
+pub never-five : (d : Desk) (c : Call) → numberOf d c ≡ 5 → ⊥
+never-five d c e = unlisted c (rw e at (known d c))

@@ -11,7 +11,7 @@ use Rattle.book.specs.Layout.{raters, headChecks}
 use Rattle.book.specs.WrongCut.{WrongCut}
 use Rattle.book.proofs.Checks.{found, none, pass, go}
 use Rattle.book.proofs.Numbers.{allPass, fault-passes}
-use Rattle.book.proofs.WrongCut.{isLow, second, cut-told, cut-meant}
+use Rattle.book.proofs.WrongCut.{isLow, past-low, cut-told, cut-meant}
 use Rattle.calls.specs.Calls.{load, loadedFault, changeFault}
 use Rattle.desk.specs.declared.Desk.{Desk}
 use Rattle.desk.specs.Desk.{placeAt}
@@ -29,5 +29,5 @@ load-tells d i j n b from to empty head some few c =
 pub load-means : (d : Desk) (i j n : ℕ) (b : List ℕ) → 31 ≤ n → numberOf d (change i (load b j)) ≡ n → WrongCut b n
 unfolding changeFault allPass
 load-means d i j n b h e =
-    let place = second _ _ n (fault-passes isLow (at-most 1 i 1 ∷ at-most i 2 1 ∷ []) tt) h e in
-    cut-meant b j n h (second _ _ n (loaded-low (placeAt d i)) h (place .1) .1)
+    let place = past-low _ _ n (fault-passes isLow (at-most 1 i 1 ∷ at-most i 2 1 ∷ []) tt) h e in
+    cut-meant b j n h (past-low _ _ n (loaded-low (placeAt d i)) h (place .1) .1)
