@@ -48,7 +48,7 @@
  * version does not link: the linker reports desk_library_is_version_N as undefined, N being the number below. Then take
  * header and library of one version and compile again. Who loads the library at run time by hand, and so does not link with
  * it, defines DESK_LOADED_BY_HAND before this header and compares desk_version() with DESK_VERSION. */
-#define DESK_VERSION 3
+#define DESK_VERSION 4
 
 #define DESK_GRADES 40            /* the most grades of a table */
 #define DESK_MAX_OBLIGORS 1000000 /* the most obligors of a table */

@@ -1,6 +1,7 @@
 //! The generator of scripts: scenes of a few calls each, one after the other on the same desk.
 //! The same seed and number of calls, the same script.
 
+use crate::band_scene::{every_edge, Edge};
 use crate::cut_scene::{every_cut, Cut};
 use crate::desk::Desk;
 use crate::draft::Draft;
@@ -80,6 +81,7 @@ pub struct Generator {
     wrong: WrongLayouts,
     cuts_to_come: Vec<Cut>,
     pairs_to_come: Vec<FaultPair>,
+    edges_to_come: Vec<Edge>,
     name: &'static str,
 }
 
@@ -93,6 +95,7 @@ impl Generator {
             wrong: WrongLayouts::default(),
             cuts_to_come: vec![],
             pairs_to_come: vec![],
+            edges_to_come: vec![],
             name: "",
         }
     }
@@ -127,6 +130,10 @@ impl Generator {
 
     pub(crate) fn next_pair(&mut self) -> FaultPair {
         self.random.deal(&mut self.pairs_to_come, every_pair)
+    }
+
+    pub(crate) fn next_edge(&mut self) -> Edge {
+        self.random.deal(&mut self.edges_to_come, every_edge)
     }
 
     /// A load of a book that is cut wrong in this manner.

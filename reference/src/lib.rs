@@ -1,4 +1,4 @@
-//! The rating scale desk in plain Rust, written from document 01, requests of document
+//! The rating scale desk in plain Rust, written from document 01, requests of document
 //! 02 and REPLAY.md alone: a second opinion on the proved library. Everything is done by
 //! definition, not cleverly, so that it can be read next to the documents.
 //!
@@ -6,11 +6,12 @@
 //! * the scripts of REPLAY.md: `script` (calls), `answer` (lines);
 //! * the generator: `random`, `population` (tables), `partners` (pairs of tables), `diagonal`
 //!   (tables for Pietra), `draft` (books), `damage` and `cuts` (of books), `operands`, `scenes`,
-//!   `cut_scene`, `pair_scene`, `tail`, `generate`;
+//!   `cut_scene`, `pair_scene`, `band_scene`, `tail`, `generate`;
 //! * the comparison: `compare`, `tally`;
 //! * `natural`: whole numbers of any size, for the bound on the residual.
 
 pub mod answer;
+pub mod band_scene;
 pub mod book;
 pub mod compare;
 pub mod cut_scene;

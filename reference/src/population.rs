@@ -106,7 +106,7 @@ pub fn shares(random: &mut Random, total: u64, parts: usize) -> Vec<u64> {
 }
 
 /// Splits a total into parts of at least 1.
-fn positive_shares(random: &mut Random, total: u64, parts: usize) -> Vec<u64> {
+pub fn positive_shares(random: &mut Random, total: u64, parts: usize) -> Vec<u64> {
     let mut shares = shares(random, total - parts as u64, parts);
     shares.iter_mut().for_each(|share| *share += 1);
     shares

@@ -1,13 +1,15 @@
-//! How often one run exercises which operations, verdicts, kinds of Pietra, refusal numbers, books
-//! cut wrong, pairs of faults, buffers and scenes.
+//! How often one run exercises which operations, verdicts, kinds of Pietra, rates at the limits of
+//! bands, refusal numbers, books cut wrong, pairs of faults, buffers and scenes.
 
 use crate::answer::{verdict_name, Answer};
+use crate::band_scene::{every_edge, Edge, SIDES};
 use crate::compare::plan;
 use crate::cut_scene::Cut;
 use crate::desk::Desk;
 use crate::generate::{Script, WrongLayouts};
 use crate::measures::{heights, Measures};
 use crate::pair_scene::{every_pair, FaultPair, Where};
+use crate::pooling::{band, blocks, Rate};
 use crate::script::Call;
 use crate::table::{Refusal, Table};
 use std::cmp::Ordering;
@@ -22,6 +24,10 @@ pub struct Tally {
     verdicts: BTreeMap<&'static str, usize>,
     /// On which side the curve is farthest from the diagonal, and where else it is as far.
     pietras: BTreeMap<(&'static str, &'static str), usize>,
+    /// Blocks of accepted pools whose rate is at most 1 ppm from a limit.
+    edges: BTreeMap<Edge, usize>,
+    /// The other blocks of accepted pools.
+    far_rates: BTreeMap<&'static str, usize>,
     /// For each refusal number, the calls of each operation.
     refusals: BTreeMap<Refusal, BTreeMap<&'static str, usize>>,
     cuts: BTreeMap<Cut, CutLoads>,
@@ -60,6 +66,7 @@ impl Tally {
             self.add_pietra(&desk, call);
             let answer = desk.call(call);
             self.add_answer(call.name(), &answer);
+            self.add_blocks(&desk, call, &answer);
             if let Some(&cut) = wrong.cuts.get(&index) {
                 self.add_cut(cut, call, &answer);
             }
@@ -128,12 +135,28 @@ impl Tally {
         }
     }
 
+    /// Pool leaves the desk as it was.
+    fn add_blocks(&mut self, desk: &Desk, call: &Call, answer: &Answer) {
+        let (Call::Pool { place, .. }, None) = (call, answer.refusal()) else {
+            return;
+        };
+        for block in desk.table(*place).iter().flat_map(|table| blocks(table)) {
+            let times = match Edge::of(&block.rate) {
+                Some(edge) => self.edges.entry(edge).or_default(),
+                None => self.far_rates.entry(far_kind(&block.rate)).or_default(),
+            };
+            *times += 1;
+        }
+    }
+
     /// The tables, as Markdown.
     pub fn markdown(&self) -> String {
         [
             self.operation_table(),
             self.verdict_table(),
             self.pietra_table(),
+            self.edge_table(),
+            self.far_rate_table(),
             self.refusal_table(),
             self.cut_table(),
             self.pair_table(),
@@ -171,6 +194,29 @@ impl Tally {
             "| Pietra | as far from the diagonal | times |\n| --- | --- | --- |\n".to_string();
         for ((side, as_far), times) in &self.pietras {
             text += &format!("| {side} | {as_far} | {times} |\n");
+        }
+        text
+    }
+
+    fn edge_table(&self) -> String {
+        let mut text = "\
+            | limit | of band | blocks 1 ppm below it | below by less | at it \
+            | above by less | 1 ppm above |\n\
+            | --- | --- | --- | --- | --- | --- | --- |\n"
+            .to_string();
+        for edges in every_edge().chunks(SIDES.len()) {
+            let times = |edge| self.edges.get(edge).copied().unwrap_or(0).to_string();
+            let cells: Vec<String> = edges.iter().map(times).collect();
+            let (limit, band, cells) = (edges[0].limit(), edges[0].band, cells.join(" | "));
+            text += &format!("| {limit} ppm | {band} | {cells} |\n");
+        }
+        text
+    }
+
+    fn far_rate_table(&self) -> String {
+        let mut text = "| blocks near no limit | times |\n| --- | --- |\n".to_string();
+        for (kind, times) in &self.far_rates {
+            text += &format!("| {kind} | {times} |\n");
         }
         text
     }
@@ -241,6 +287,16 @@ impl Tally {
             text += &format!("| {scene} | {calls} |\n");
         }
         text
+    }
+}
+
+/// What kind of rate this is that no limit is near to.
+fn far_kind(rate: &Rate) -> &'static str {
+    match (rate.defaults, rate.survivors(), band(rate)) {
+        (0, ..) => "rate 0",
+        (_, 0, _) => "rate 1",
+        (_, _, 14) => "above the highest limit",
+        _ => "between 0 and the highest limit",
     }
 }
 

@@ -10,6 +10,7 @@ pub mod Parts
 pub mod LeastSquares
 pub mod Determined
 pub mod Bands
+pub mod Limits
 pub mod Written
 pub mod Words
 pub mod Backwards

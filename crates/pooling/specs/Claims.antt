@@ -1,12 +1,13 @@
 -- What is proved of pooling, beside the contracts. The contract of `claims` in src/lib.rt is all of it, so that the crate is refused where
 -- a claim is not proved.
-use Prim.Native.Nat.{ℕ}
+use Prim.Native.Nat.{ℕ, _<_}
 use mathlib.Core.Path.{_≡_}
 use mathlib.Core.List.{List}
-use lib.ListN.{length}
+use lib.ListN.{length, getD}
 use Rattle.table.specs.Table.{Table, Every, Occupied, Sound, defaultsIn, obligorsIn}
 use Rattle.pooling.specs.Pool.{Block, pool, pooledScale, Rising, Runs}
-use Rattle.pooling.specs.Band.{bandOf, IsBand}
+use Rattle.pooling.specs.Band.{bandLimit, bandOf, IsBand}
+use Rattle.pooling.specs.Limits.{listedLimits}
 use Rattle.pooling.specs.Numbers.{pooledInto, ratesWritten}
 use Rattle.pooling.specs.Fraction.{Fraction, Proper, AtMost, sum, difference, square, times, product}
 use Rattle.pooling.specs.Regression.{Monotone, IsRegression, distance, rates, error, ratesIn, pooledRates}
@@ -51,6 +52,10 @@ BlocksAreDetermined =
 abbrev pub BandsAreRight : Type 0
 BandsAreRight = (x : Block) → IsBand x (bandOf x)
 
+-- "[The band search takes its limits] from a constant table of those fourteen, entry b shown equal to 100 times 2^b for b from 0 to 13."
+abbrev pub ListedLimitsAreRight : Type 0
+ListedLimitsAreRight = (length listedLimits ≡ 14) × ((b : ℕ) → b < 14 → getD listedLimits b 0 ≡ bandLimit b)
+
 -- Cross-multiplication compares proper fractions only, those over at least 1. Arithmetic keeps fractions proper,
 abbrev pub ArithmeticKeepsProper : Type 0
 ArithmeticKeepsProper =
@@ -76,5 +81,6 @@ pub record Claims : Type 0 where
   pub error-is-at-least : ErrorIsAtLeast
   pub blocks-are-determined : BlocksAreDetermined
   pub bands-are-right : BandsAreRight
+  pub listed-limits-are-right : ListedLimitsAreRight
   pub arithmetic-keeps-proper : ArithmeticKeepsProper
   pub errors-are-proper : ErrorsAreProper

@@ -1,5 +1,6 @@
 pub mod Pool
 pub mod Band
+pub mod Limits
 pub mod Numbers
 pub mod Fraction
 pub mod Regression

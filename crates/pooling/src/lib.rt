@@ -7,7 +7,8 @@ ghost use Rattle.table.specs.Words.{tableIn, HoldsTable};
 ghost use Rattle.table.specs.Counts.{largest};
 ghost use Rattle.pooling.specs.Pool.{join, pool, rateBelow};
 ghost use Rattle.pooling.specs.Private.{blockWords, blockAt};
-ghost use Rattle.pooling.specs.Band.{bandLimit, bandOf};
+ghost use Rattle.pooling.specs.Band.{bandOf};
+ghost use Rattle.pooling.specs.Limits.{listedLimits};
 ghost use Rattle.pooling.specs.Numbers.{gradesOf, pooledInto};
 ghost use Rattle.pooling.specs.Claims.{Claims};
 use table::DEFAULTS;
@@ -21,13 +22,23 @@ pub struct Block {
     pub defaults: u32,
 }
 
-// The limit of a band, in ppm.
-fn band_limit(b: u32) -> u64
-    requires { ⌜ b < 14 ⌝ }
-    ensures { λ r. ⌜ r ≡ bandLimit b ⌝ }
-{
-    100 << b
-}
+// The limits of bands 0 to 13, in ppm, one a line for whoever checks them. A test holds docs/BANDS.md to these lines.
+const BAND_LIMITS: [u32; 14] = [
+    100,
+    200,
+    400,
+    800,
+    1_600,
+    3_200,
+    6_400,
+    12_800,
+    25_600,
+    51_200,
+    102_400,
+    204_800,
+    409_600,
+    819_200,
+];
 
 impl Block {
     // A grade as a block of its own.
@@ -63,16 +74,17 @@ impl Block {
             < (next.defaults as u64) * (self.obligors as u64)
     }
 
-    // The band of the default rate, which is at most `most`: searched downwards from there. Rate and limits are taken times the obligors,
-    // so that nothing is rounded.
-    fn band(self, most: u32) -> u32
-        requires { ⌜ (bandOf self ≤ most) × (most ≤ 14) ⌝ }
+    // The band of the default rate, which is at most `most`: searched downwards from there in the lent list of limits. Rate and limits are
+    // taken times the obligors, so that nothing is rounded.
+    fn band(self, limits: &[u32], most: usize) -> usize
+        requires limits { ⌜ now limits ≡ listedLimits ⌝ }
+        requires most { ⌜ (bandOf self ≤ most) × (most ≤ 14) ⌝ }
         ensures { λ r. ⌜ r ≡ bandOf self ⌝ }
     {
         let rate = (self.defaults as u64) * (PPM as u64);
         let mut b = most;
         while 0 < b {
-            if band_limit(b - 1) * (self.obligors as u64) < rate {
+            if (limits[b - 1] as u64) * (self.obligors as u64) < rate {
                 return b;
             }
             b -= 1;
@@ -162,16 +174,20 @@ pub fn pool(place: &[u32], out: &mut [u32])
     requires { ⌜ HoldsTable (now place) × (3 * length (tableIn (now place)) ≤ length (now out)) ⌝ }
     ensures { λ _. ⌜ now (out .exit) ≡ pooledInto (tableIn (now (place .entry))) (now (out .entry)) ⌝ }
 {
+    let limits = BAND_LIMITS; // lent, since a search that names the constant stores it at every step
     let mut items = [0; BLOCKS];
     let start = blocks_of(place, &mut items);
     let mut end = NUMBERS * grades_of(place);
     let mut at = BLOCKS;
-    let mut band: u32 = 14;
-    while start < at {
+    let mut band: usize = 14;
+    loop {
         at -= 3;
         let x = block_at(&items, at);
-        band = x.band(band);
-        write_block(x, band, end, &mut *out);
+        band = x.band(&limits, band);
+        write_block(x, band as u32, end, &mut *out);
+        if at == start {
+            return;
+        }
         end -= NUMBERS * (x.grades as usize);
     }
 }

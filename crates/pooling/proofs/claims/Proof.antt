@@ -8,6 +8,7 @@ use Rattle.pooling.proofs.LeastSquares.{pooled-regression, error-at-lea
 use Rattle.pooling.proofs.Determined.{blocks-determined}
 use Rattle.pooling.proofs.Written.{rates-written}
 use Rattle.pooling.proofs.Bands.{band-right}
+use Rattle.pooling.proofs.Limits.{limits-right}
 use Rattle.pooling.proofs.claims.Statement.{statement}
 use Rattle.pooling.proofs.claims.Tie as tie
 
@@ -22,6 +23,7 @@ returns c = record {
   error-is-at-least = error-at-least;
   blocks-are-determined = blocks-determined;
   bands-are-right = band-right;
+  listed-limits-are-right = limits-right;
   arithmetic-keeps-proper = arithmetic-proper;
   errors-are-proper = errors-proper;
 }

@@ -1,5 +1,5 @@
 -- `pool` meets its contract. The invariant: from `end` on stand the numbers of the blocks from index `at` on, and then the further ones;
--- the band of the block before them is at most the one in hand.
+-- there is a block before them, and its band is at most the one in hand.
 use Prim.Native.Nat.{ℕ, _+_, _-_, _*_, _≤_, _<_}
 use mathlib.Core.Path.{_≡_, refl, ap, sym, _∙_}
 use mathlib.Core.List.{List, _∷_, _++_}
@@ -15,6 +15,7 @@ use Rattle.table.proofs.Words.{few-in}
 use Rattle.pooling.specs.Pool.{Block, Rising, pool}
 use Rattle.pooling.specs.Private.{blockWords}
 use Rattle.pooling.specs.Band.{bandOf}
+use Rattle.pooling.specs.Limits.{listedLimits}
 use Rattle.pooling.specs.Numbers.{gradesOf, numbersOf}
 use Rattle.pooling.proofs.Front.{pool-rising, rising-drop}
 use Rattle.pooling.proofs.Bands.{band-right, bands-rise}
@@ -39,10 +40,11 @@ record Written (bs : List Block) (items : List ℕ) (start end₀ : ℕ) (out₀
   pub same : out ≡ take end out₀ ++ numbersOf (drop (between .count) bs) (drop end₀ out₀)
 
 abbrev Inv-loop : tie.InvT-loop
-Inv-loop place out₀ items start end₀ at₀ band₀ out end at band = Written (pool (tableIn place)) items start end₀ out₀ out end at band
+Inv-loop place out₀ limits items start end₀ at₀ band₀ out end at band =
+    (start < at) × Written (pool (tableIn place)) items start end₀ out₀ out end at band
 
 abbrev μ-loop : tie.MeasureT-loop
-μ-loop place out₀ items start end₀ at₀ band₀ out end at band = at
+μ-loop place out₀ limits items start end₀ at₀ band₀ out end at band = at
 
 -- What a turn knows of the block before index `at`, the last of k.
 record Turn (bs : List Block) (items : List ℕ) (start at k : ℕ) : Type 0 where
@@ -65,36 +67,43 @@ turn bs items start at held rising b h =
           bands-rise _ _ ((rw before at (rising-drop bs (k - 1 - 1) rising)) .0);
     }
 
-abbrev blocks : tie.In-loop Inv-loop μ-loop → List Block
-blocks c = pool (tableIn (now (c .before .before .before .before .before .before .before .args .place)))
+abbrev blocks : tie.At-loop Inv-loop μ-loop → List Block
+blocks c = pool (tableIn (now (c .before .before .before .before .before .before .args .place)))
 
-abbrev items : tie.In-loop Inv-loop μ-loop → List ℕ
-items c = c .before .before .before .blocks-of .last .1 .0
+abbrev items : tie.At-loop Inv-loop μ-loop → List ℕ
+items c = c .before .before .blocks-of .last .1 .0
 
-at : (c : tie.In-loop Inv-loop μ-loop)
-    → Turn (blocks c) (items c) (c .before .before .before .blocks-of .result) (c .before .loop .at) (c .before .loop .inv .between .count)
-at c = let inv = c .before .loop .inv in turn _ _ _ _ (inv .held) (inv .rising) (inv .between) (c .loop-test .taken)
+at : (c : tie.At-loop Inv-loop μ-loop)
+    → Turn (blocks c) (items c) (c .before .before .blocks-of .result) (c .loop .at) (c .loop .inv .1 .between .count)
+at c = let inv = c .loop .inv .1 in turn _ _ _ _ (inv .held) (inv .rising) (inv .between) (c .loop .inv .0)
 
 -- The block that was read.
 is : (c : tie.After-block-at Inv-loop μ-loop)
-    → c .block-at .result ≡ nth (blocks (c .before .before)) (c .before .before .before .loop .inv .between .count - 1)
+    → c .block-at .result ≡ nth (blocks (c .before .before)) (c .before .before .loop .inv .1 .between .count - 1)
 is c = c .block-at .ensures ∙ at (c .before .before) .block .here
 
 -- It has no more grades than are left, and there is room for their numbers.
 module _ (c : tie.After-block-at Inv-loop μ-loop) where
   abbrev turned : tie.At-loop Inv-loop μ-loop
-  turned = c .before .before .before
+  turned = c .before .before
 
   fewer : 3 * c .block-at .result .grades ≤ turned .loop .end
   fewer =
-      let inv = turned .loop .inv in
-      omega (arith, inv .all, inv .count, at (c .before .before) .fewer, ap (λ x. x .grades) (is c))
+      let inv = turned .loop .inv .1 in
+      omega (arith, inv .all, inv .count, at turned .fewer, ap (λ x. x .grades) (is c))
 
   within : turned .loop .end ≤ length (turned .loop .out)
-  within = let inv = turned .loop .inv in omega (arith, inv .count, inv .room, inv .long)
+  within = let inv = turned .loop .inv .1 in omega (arith, inv .count, inv .room, inv .long)
 
   fits : Fits w64 (3 * c .block-at .result .grades)
-  fits = let inv = turned .loop .inv in omega (arith, fewer, inv .count, inv .small)
+  fits = let inv = turned .loop .inv .1 in omega (arith, fewer, inv .count, inv .small)
+
+-- The constant has the listed limits.
+band-requires : tie.Need-band-requires Inv-loop μ-loop
+unfolding listedLimits
+band-requires c κs =
+    let inv = turned (c .before) .loop .inv in
+    (refl, (rw (is (c .before)) (inv .1 .most (inv .0)), inv .1 .few))
 
 loop-holds : tie.Need-loop-holds Inv-loop μ-loop
 unfolding numbersOf sumOf
@@ -105,59 +114,76 @@ loop-holds c =
     let r = c .before .blocks-of in
     let between = at-end (r .last .1 .0) (pool t) (r .result) 120 (r .ensures .0 .0) (omega (arith, r .ensures .0 .1)) (r .ensures .1) in
     let n : length t ≡ c .grades-of .result = rw (c .grades-of .ensures) (length-grades (placeIn w) 0 (placeIn w .grades)) in
-    let none = drop-of-length-le (pool t) {i = length (pool t)} (omega arith) in
-    record {
-      held = r .ensures .0 .0;
-      full = r .ensures .1;
-      between = between;
-      rising = pool-rising t;
-      all = omega (arith, n, grades-count t);
-      small = omega (arith, n, s .pre .0 .sound .few);
-      room = omega (arith, n, s .pre .1);
-      long = refl;
-      few = omega arith;
-      most = λ _. omega (arith, band-right (nth (pool t) (length (pool t) - 1)) .within);
-      count = rw none (omega arith);
-      same = rw (none, take-append-drop);
-    }
+    let none = drop-of-length-le (pool t) {i = length (pool t)} (omega arith) in (
+      r .ensures .0 .1,
+      record {
+        held = r .ensures .0 .0;
+        full = r .ensures .1;
+        between = between;
+        rising = pool-rising t;
+        all = omega (arith, n, grades-count t);
+        small = omega (arith, n, s .pre .0 .sound .few);
+        room = omega (arith, n, s .pre .1);
+        long = refl;
+        few = omega arith;
+        most = λ _. omega (arith, band-right (nth (pool t) (length (pool t) - 1)) .within);
+        count = rw none (omega arith);
+        same = rw (none, take-append-drop);
+      },
+    )
+
+-- What stands once the block is written.
+module _ (c : tie.After-write-block Inv-loop μ-loop) where
+  abbrev read : tie.After-block-at Inv-loop μ-loop
+  read = c .before .before .before .before
+
+  abbrev ends : ℕ
+  ends = turned read .loop .end - 3 * read .block-at .result .grades
+
+  written : Written (blocks (turned read)) (items (turned read)) (turned read .before .before .blocks-of .result) (3 * turned read .before .grades-of .result)
+      (now (turned read .before .before .before .before .before .before .args .out)) (c .write-block .last .1 .1 .1 .0)
+      ends (turned read .loop .at - 3) (c .before .before .band .result)
+  unfolding numbersOf sumOf
+  written =
+      let f = at (turned read) in
+      let inv = turned read .loop .inv .1 in
+      let k = inv .between .count in
+      let b = c .before .before .band .ensures in
+      let o = now (turned read .before .before .before .before .before .before .args .out) in
+      let x = read .block-at .result in
+      let split = f .block .from ∙ ap (λ y. y ∷ drop k (blocks (turned read))) (sym (is read)) in
+      let end = turned read .loop .end in
+      let short : end ≤ length o = omega (arith, inv .count, inv .room) in
+      let more = put-more o _ (turned read .loop .out) end ends (gradesOf x (x .grades)) (inv .same) (omega arith) short in
+      record {
+        held = inv .held;
+        full = inv .full;
+        between = record { count = k - 1; few = omega (arith, f .block .few); same = f .block .same };
+        rising = inv .rising;
+        all = inv .all;
+        small = inv .small;
+        room = inv .room;
+        long = c .write-block .kept .1 .1 .1 .0 ∙ inv .long;
+        few = omega (arith, b, band-right x .within);
+        most = λ h. omega (arith, b, ap bandOf (is read), f .lower h);
+        count = rw split (omega (arith, inv .count, fewer read));
+        same = rw split (rw more at (c .write-block .ensures));
+      }
 
 loop-again : tie.Need-loop-again Inv-loop μ-loop
-unfolding numbersOf sumOf
 loop-again c =
-    let r = c .before .before .before .before .before .before in
-    let f = at (r .before .before) in
-    let a = r .before .before .before in
-    let k = a .loop .inv .between .count in
-    let b = c .before .before .before .before .before .band .ensures in
-    let o = now (a .before .before .before .before .before .before .args .out) in
-    let x = r .block-at .result in
-    let split : drop (k - 1) (blocks (r .before .before)) ≡ x ∷ drop k (blocks (r .before .before)) = rw (is r) (f .block .from) in
-    let end = a .loop .end in
-    let short : end ≤ length o = omega (arith, a .loop .inv .count, a .loop .inv .room) in
-    let more = put-more o _ (a .loop .out) end (end - 3 * x .grades) (gradesOf x (x .grades)) (a .loop .inv .same) (omega arith) short in
-    record {
-      held = a .loop .inv .held;
-      full = a .loop .inv .full;
-      between = record { count = k - 1; few = omega (arith, f .block .few); same = f .block .same };
-      rising = a .loop .inv .rising;
-      all = a .loop .inv .all;
-      small = a .loop .inv .small;
-      room = a .loop .inv .room;
-      long = c .before .before .before .write-block .kept .1 .1 .1 .0 ∙ a .loop .inv .long;
-      few = omega (arith, b, band-right x .within);
-      most = λ h. rw (b, is r) (f .lower h);
-      count = rw split (omega (arith, a .loop .inv .count, fewer r));
-      same = rw split (rw more at (c .before .before .before .write-block .ensures));
-    }
+    let w = written (c .before .before .before .before) in
+    (omega (arith, c .before .if1 .left, w .between .same), w)
 
 returns : tie.Need-returns Inv-loop μ-loop
 returns c =
-    let inv = c .before .loop .inv in
-    let w = now (c .before .before .before .before .before .before .before .args .place) in
-    let none : inv .between .count ≡ 0 = omega (arith, inv .between .same) in
-    let z : c .before .loop .end ≡ 0 = omega (arith, inv .all, rw none at (inv .count)) in
-    let all : 3 * length (tableIn w) ≡ 3 * c .before .before .grades-of .result = omega (arith, inv .all, grades-count (tableIn w)) in
-    rw all (rw (none, z) at (inv .same))
+    let d = c .before .before .before in
+    let w = written d in
+    let t = tableIn (now (turned (read d) .before .before .before .before .before .before .args .place)) in
+    let none : w .between .count ≡ 0 = omega (arith, c .if1 .taken, w .between .same) in
+    let first : ends d ≡ 0 = omega (arith, w .all, rw none at (w .count)) in
+    let all : 3 * length t ≡ 3 * turned (read d) .before .grades-of .result = omega (arith, w .all, grades-count t) in
+    rw all (rw (none, first) at (w .same))
 
 pub pool-spec : {M : Type 1} → statement M
 pool-spec =
@@ -170,14 +196,16 @@ pool-spec =
     (λ c. omega (arith, c .grades-of .ensures, few-in (c .before .before .before .before .before .pre .0)))
     loop-holds
     (λ c. at c .block .high)
-    (λ c. sym (c .before .before .loop .inv .full))
+    (λ c. sym (c .before .loop .inv .1 .full))
     (λ c κs. at (c .before) .block .room)
-    (λ c κs. let inv = c .before .before .before .loop .inv in (rw (is c) (inv .most (c .before .before .loop-test .taken)), inv .few))
-    (λ c κs. (c .before .band .ensures, (fewer (c .before .before), within (c .before .before))))
     (λ c. search needs)
-    (λ c. fits (c .before .before .before .before .before .before))
-    (λ c. fewer (c .before .before .before .before .before .before))
+    band-requires
+    (λ c. omega (arith, c .band .ensures, band-right (c .before .before .block-at .result) .within))
+    (λ c κs. (c .before .band .ensures, (fewer (c .before .before .before), within (c .before .before .before))))
+    (λ c. search needs)
+    returns
+    (λ c. search needs)
+    (λ c. fits (read (c .before .before .before .before)))
+    (λ c. fewer (read (c .before .before .before .before)))
     (λ c. omega arith)
-    loop-again
-    (λ c. c .before .loop .inv .long)
-    returns)
+    loop-again)
