@@ -177,8 +177,8 @@ fn split_anyhow(random: &mut Random, block: &Rate, grade_count: usize) -> Vec<(u
     rows
 }
 
-/// A table whose blocks have these rates, each below the next and none of all obligors. There is
-/// room for two more grades.
+/// A table whose blocks have these rates, each below the next and none that needs all obligors.
+/// There is room for two more grades.
 pub fn rising_blocks(random: &mut Random, edges: &[Edge]) -> Table {
     let room = MAX_OBLIGORS / (edges.len() as u64 + 2);
     let most_grades = (MAX_GRADES - 2) / edges.len();

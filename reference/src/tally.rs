@@ -153,15 +153,15 @@ impl Tally {
     pub fn markdown(&self) -> String {
         [
             self.operation_table(),
-            self.verdict_table(),
+            two_columns("| verdict | times |", &self.verdicts),
             self.pietra_table(),
             self.edge_table(),
-            self.far_rate_table(),
+            two_columns("| blocks near no limit | times |", &self.far_rates),
             self.refusal_table(),
             self.cut_table(),
             self.pair_table(),
             self.buffer_table(),
-            self.scene_table(),
+            two_columns("| scene | calls |", &self.scenes),
         ]
         .join("\n")
     }
@@ -179,14 +179,6 @@ impl Tally {
         text + &format!(
             "\n{calls} calls in {scripts} scripts, {broken} of which break off (`end`).\n"
         )
-    }
-
-    fn verdict_table(&self) -> String {
-        let mut text = "| verdict | times |\n| --- | --- |\n".to_string();
-        for (verdict, times) in &self.verdicts {
-            text += &format!("| {verdict} | {times} |\n");
-        }
-        text
     }
 
     fn pietra_table(&self) -> String {
@@ -209,14 +201,6 @@ impl Tally {
             let cells: Vec<String> = edges.iter().map(times).collect();
             let (limit, band, cells) = (edges[0].limit(), edges[0].band, cells.join(" | "));
             text += &format!("| {limit} ppm | {band} | {cells} |\n");
-        }
-        text
-    }
-
-    fn far_rate_table(&self) -> String {
-        let mut text = "| blocks near no limit | times |\n| --- | --- |\n".to_string();
-        for (kind, times) in &self.far_rates {
-            text += &format!("| {kind} | {times} |\n");
         }
         text
     }
@@ -280,14 +264,14 @@ impl Tally {
         }
         text
     }
+}
 
-    fn scene_table(&self) -> String {
-        let mut text = "| scene | calls |\n| --- | --- |\n".to_string();
-        for (scene, calls) in &self.scenes {
-            text += &format!("| {scene} | {calls} |\n");
-        }
-        text
+fn two_columns(head: &str, times: &BTreeMap<&'static str, usize>) -> String {
+    let mut text = format!("{head}\n| --- | --- |\n");
+    for (kind, times) in times {
+        text += &format!("| {kind} | {times} |\n");
     }
+    text
 }
 
 /// What kind of rate this is that no limit is near to.

@@ -1,5 +1,5 @@
-//! The fourteen band limits, written out as the analysts' handbook prints them (request R-3 of
-//! document 02), and the scene that holds other programs to them.
+//! The fourteen band limits of request R-3 of document 02, written out, and the scene that holds
+//! other programs to them.
 
 use reference::answer::Answer;
 use reference::band_scene::{
@@ -179,6 +179,12 @@ fn is_edge(edge: Edge, rate: (u64, u64)) -> bool {
     is_on(edge.side, rate, LIMITS[edge.band as usize])
 }
 
+/// At most 1 ppm from a limit.
+fn is_near(rate: (u64, u64)) -> bool {
+    let near = |&limit: &u64| SIDES.iter().any(|&side| is_on(side, rate, limit));
+    LIMITS.iter().any(near)
+}
+
 /// (d, n) of each block, best first.
 fn block_rates(table: &Table) -> Vec<(u64, u64)> {
     let rate = |rate: Rate| (rate.defaults, rate.obligors);
@@ -226,8 +232,7 @@ fn joined_grades_are_not_near_a_limit_by_themselves() {
             let table = joined_grades(&mut Random::of_seed(seed), edge);
             for grade in &table.grades {
                 let rate = (grade.defaults, grade.obligors);
-                let is_near = |&limit: &u64| SIDES.iter().any(|&side| is_on(side, rate, limit));
-                assert!(!LIMITS.iter().any(is_near), "{edge:?}, {seed}");
+                assert!(!is_near(rate), "{edge:?}, {seed}");
             }
         }
     }
@@ -251,7 +256,7 @@ fn several_blocks_stand_apart_at_their_limits() {
 }
 
 #[test]
-fn blocks_have_few_obligors_and_all_of_them() {
+fn blocks_have_the_fewest_obligors_and_all_of_them() {
     for edge in every_edge() {
         let sizes = (0..400).map(|seed| single_grade(&mut Random::of_seed(seed), edge).obligors());
         let sizes: Vec<u64> = sizes.collect();
@@ -296,9 +301,10 @@ fn the_scene_loads_and_pools_every_shape() {
     assert!(pools.values().all(|&times| times > 20), "{pools:?}");
 }
 
-/// Blocks by limit and side, from the answers: neighbouring blocks never have the same counts.
-fn blocks_of_run(seed: u64, calls: usize) -> BTreeMap<(u64, Side), usize> {
-    let mut times = BTreeMap::new();
+/// (d, n) of each block that a run pools, from the answers: neighbouring blocks never have the same
+/// counts.
+fn rates_of_run(seed: u64, calls: usize) -> Vec<(u64, u64)> {
+    let mut rates = vec![];
     for (seed, calls) in plan(seed, calls) {
         let mut desk = Desk::fresh();
         for call in &Script::generate(seed, calls).calls {
@@ -307,20 +313,13 @@ fn blocks_of_run(seed: u64, calls: usize) -> BTreeMap<(u64, Side), usize> {
                 continue;
             };
             let grades = desk.table(*place).map_or(0, |table| table.grades.len());
-            let mut rates: Vec<&[u32]> = lent.chunks(3).take(grades).collect();
-            rates.dedup();
-            for rate in rates {
-                let rate = (rate[0].into(), rate[1].into());
-                let sides = LIMITS
-                    .iter()
-                    .flat_map(|&limit| SIDES.map(|side| (limit, side)));
-                for (limit, side) in sides.filter(|&(limit, side)| is_on(side, rate, limit)) {
-                    *times.entry((limit, side)).or_default() += 1;
-                }
-            }
+            let mut numbers: Vec<&[u32]> = lent.chunks(3).take(grades).collect();
+            numbers.dedup();
+            let rate = |block: &[u32]| (block[0].into(), block[1].into());
+            rates.extend(numbers.into_iter().map(rate));
         }
     }
-    times
+    rates
 }
 
 /// As many calls as the gate has for a seed.
@@ -328,10 +327,15 @@ fn blocks_of_run(seed: u64, calls: usize) -> BTreeMap<(u64, Side), usize> {
 fn a_run_has_blocks_at_every_limit_and_beside_it() {
     for seed in [1, 2, 3] {
         let tally = Tally::of_run(seed, 15_000).markdown();
-        let found = blocks_of_run(seed, 15_000);
+        let rates = rates_of_run(seed, 15_000);
         for (band, limit) in LIMITS.into_iter().enumerate() {
-            let times = SIDES.map(|side| found.get(&(limit, side)).copied().unwrap_or(0));
-            let [one_below, below, at, above, one_above] = times;
+            let count = |side| {
+                rates
+                    .iter()
+                    .filter(|&&rate| is_on(side, rate, limit))
+                    .count()
+            };
+            let [one_below, below, at, above, one_above] = SIDES.map(count);
             let row = format!(
                 "| {limit} ppm | {band} | {one_below} | {below} | {at} | {above} | {one_above} |\n"
             );
@@ -339,8 +343,28 @@ fn a_run_has_blocks_at_every_limit_and_beside_it() {
             assert!(below >= 3 && at >= 3 && above >= 3, "seed {seed}: {row}");
             assert!(one_below >= 1 && one_above >= 1, "seed {seed}: {row}");
         }
-        for kind in ["rate 0", "rate 1", "above the highest limit"] {
-            assert!(tally.contains(&format!("\n| {kind} | ")), "{seed}: {kind}");
+    }
+}
+
+#[test]
+fn a_run_has_rates_of_every_kind_far_from_the_limits() {
+    let far_kind = |&rate: &(u64, u64)| match rate {
+        (0, _) => "rate 0",
+        (defaults, obligors) if defaults == obligors => "rate 1",
+        rate if listed_band(rate) == 14 => "above the highest limit",
+        _ => "between 0 and the highest limit",
+    };
+    for seed in [1, 2, 3] {
+        let tally = Tally::of_run(seed, 15_000).markdown();
+        let mut times = BTreeMap::new();
+        let rates = rates_of_run(seed, 15_000);
+        for rate in rates.iter().filter(|&&rate| !is_near(rate)) {
+            *times.entry(far_kind(rate)).or_insert(0) += 1;
+        }
+        assert_eq!(times.len(), 4, "seed {seed}: {times:?}");
+        for (kind, times) in times {
+            let row = format!("\n| {kind} | {times} |\n");
+            assert!(tally.contains(&row), "seed {seed}: {row}");
         }
     }
 }

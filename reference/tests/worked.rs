@@ -5,7 +5,7 @@ use reference::book;
 use reference::cutoff::{cheapest_cost, verdict, Price, Verdict};
 use reference::desk::Desk;
 use reference::measures::{measures, pairs, Pairs};
-use reference::pooling::{pool, Rate};
+use reference::pooling::pool;
 use reference::print::print;
 use reference::table::Table;
 
@@ -191,17 +191,6 @@ fn k_limits() {
     assert_eq!(desk.cheapest(1, 1_000_000, 1_000_000), Ok((0, 7_000_000)));
     assert_eq!(desk.cheapest(1, 1_000_001, 0), Err(12));
     assert_eq!(desk.cheapest(1, 0, 1_000_001), Err(12));
-}
-
-#[test]
-fn bands_are_compared_without_rounding() {
-    let band = |defaults, obligors| reference::pooling::band(&Rate { defaults, obligors });
-    assert_eq!(band(0, 5), 0);
-    for power in 0..14 {
-        assert_eq!(band(1 << power, 10_000), power);
-        assert_eq!(band(100 << power, 999_999), power + 1);
-    }
-    assert_eq!(band(1, 1), 14);
 }
 
 #[test]

@@ -14,6 +14,7 @@ from common import Scale, loaded, read  # noqa: E402
 from desk import Desk  # noqa: E402
 
 ROW = re.compile(r'^\| (\d+) \| ([\d,]+) \| ([\d.]+)% \|$', re.M)
+HEAD = '| band | limit in ppm | in percent |\n| ---: | ---: | ---: |\n'
 CONSTANT = re.compile(r'^const BAND_LIMITS: \[u32; (\d+)\] = \[\n((?:    [\d_]+,\n)*)\];$', re.M)
 DEFINITION = re.compile(r'^listedLimits =\n((?:    (?:∷ )?[\d_]+\n)*)    ∷ \[\]$', re.M)
 MOST = 1_000_000  # obligors of a table, and ppm of the whole
@@ -37,6 +38,13 @@ def bands(scale: Scale) -> list[int]:
 
 
 class Page(unittest.TestCase):
+    def test_there_is_one_table_of_such_rows(self) -> None:
+        page = read('docs', 'BANDS.md').decode()
+        [table] = re.findall(r'(?:^\|.*\n)+', page, re.M)
+        self.assertTrue(table.startswith(HEAD))
+        self.assertEqual(len(ROW.findall(table)), table[len(HEAD):].count('\n'))
+        self.assertIn('\nA rate above all of them is in band 14.\n', page)
+
     def test_the_limits_are_those_of_the_constant(self) -> None:
         [(count, entries)] = CONSTANT.findall(read('crates', 'pooling', 'src', 'lib.rt').decode())
         self.assertEqual(numbers(entries), limits())
@@ -81,7 +89,7 @@ class Bands(unittest.TestCase):
                 self.assertEqual(bands(scale), [band + more] * 2)
 
     def test_every_band_in_one_table(self) -> None:
-        """Fifteen blocks, each at its limit, and one above all."""
+        """Fourteen blocks, each at its limit, and one above all."""
         scale = [(10_000, ppm // 100) for ppm in limits()] + [(1, 1)]
         self.assertEqual(bands(scale), list(range(15)))
 

@@ -24,7 +24,7 @@ FOR_C = {'include/desk.h': 0o644, 'lib/libdesk.a': 0o644, f'lib/{LIBRARY}': 0o75
          'lib/pkgconfig/desk.pc': 0o644, 'lib/cmake/desk/desk-config.cmake': 0o644, 'lib/cmake/desk/desk-config-version.cmake': 0o644}
 BESIDE = {f'{PYTHON}/desk/libdesk.so': f'../../../{LIBRARY}', f'{PYTHON}/desk/report': 0o755, 'bin/desk': 0o755,
           'share/desk/installed.txt': 0o644}
-PAGES = ('BOOK.md', 'CHANGELOG.md', 'COMMAND.md', 'INSTALL.md', 'REFUSALS.md', 'example.c', 'memory.c', 'memory.cpp')
+PAGES = ('BANDS.md', 'BOOK.md', 'CHANGELOG.md', 'COMMAND.md', 'INSTALL.md', 'REFUSALS.md', 'example.c', 'memory.c', 'memory.cpp')
 OLD_PYTHON = """import sys
 sys.version_info = (3, 7, 16)
 __file__ = sys.argv[1]

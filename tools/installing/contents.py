@@ -13,7 +13,7 @@ from .putting import Entry
 from .words import NotDone
 
 HERE = os.path.dirname(os.path.abspath(__file__))
-DOCUMENTS = ('CHANGELOG.md', 'docs/BOOK.md', 'docs/COMMAND.md', 'docs/INSTALL.md', 'docs/REFUSALS.md',
+DOCUMENTS = ('CHANGELOG.md', 'docs/BANDS.md', 'docs/BOOK.md', 'docs/COMMAND.md', 'docs/INSTALL.md', 'docs/REFUSALS.md',
              'bindings/c/example.c', 'bindings/c/memory.c', 'bindings/c/memory.cpp')
 WAY = "WAY = 'bindings/python'"  # as the launcher has it in the sources
 

@@ -1,5 +1,5 @@
 //! The blocks of a table by one pass with a stack, and the numbers that pool writes.
-use super::{Table, GRADES};
+use super::{Table, GRADES, MILLION};
 
 /// A run of neighbouring grades.
 #[derive(Clone, Copy)]
@@ -87,6 +87,11 @@ impl Blocks {
     }
 }
 
+/// In ppm.
+const BAND_LIMITS: [u32; 14] = [
+    100, 200, 400, 800, 1_600, 3_200, 6_400, 12_800, 25_600, 51_200, 102_400, 204_800, 409_600, 819_200,
+];
+
 /// The numbers of each grade. Rates rise from block to block, so a block's band is looked for from the last one's on.
 pub fn pool(table: &Table, numbers: &mut [[u32; 3]]) {
     let mut blocks = Blocks::NONE;
@@ -94,12 +99,13 @@ pub fn pool(table: &Table, numbers: &mut [[u32; 3]]) {
     let mut rows = numbers.iter_mut();
     let mut band = 0;
     for block in blocks.worst_first().rev() {
-        let rate = u64::from(block.defaults) * 10_000;
-        while band < 14 && rate > u64::from(block.obligors) << band {
+        let rate = u64::from(block.defaults) * u64::from(MILLION);
+        let passes = |&limit: &u32| rate > u64::from(limit) * u64::from(block.obligors);
+        while BAND_LIMITS.get(band).is_some_and(passes) {
             band += 1;
         }
         for row in rows.by_ref().take(block.grades as usize) {
-            *row = [block.defaults, block.obligors, band];
+            *row = [block.defaults, block.obligors, band as u32];
         }
     }
 }

@@ -67,8 +67,11 @@ turn bs items start at held rising b h =
           bands-rise _ _ ((rw before at (rising-drop bs (k - 1 - 1) rising)) .0);
     }
 
+abbrev begun : tie.At-loop Inv-loop μ-loop → tie.Start Inv-loop μ-loop
+begun c = c .before .before .before .before .before .before
+
 abbrev blocks : tie.At-loop Inv-loop μ-loop → List Block
-blocks c = pool (tableIn (now (c .before .before .before .before .before .before .args .place)))
+blocks c = pool (tableIn (now (begun c .args .place)))
 
 abbrev items : tie.At-loop Inv-loop μ-loop → List ℕ
 items c = c .before .before .blocks-of .last .1 .0
@@ -137,24 +140,26 @@ module _ (c : tie.After-write-block Inv-loop μ-loop) where
   abbrev read : tie.After-block-at Inv-loop μ-loop
   read = c .before .before .before .before
 
-  abbrev ends : ℕ
-  ends = turned read .loop .end - 3 * read .block-at .result .grades
+  abbrev top : tie.At-loop Inv-loop μ-loop
+  top = turned read
 
-  written : Written (blocks (turned read)) (items (turned read)) (turned read .before .before .blocks-of .result) (3 * turned read .before .grades-of .result)
-      (now (turned read .before .before .before .before .before .before .args .out)) (c .write-block .last .1 .1 .1 .0)
-      ends (turned read .loop .at - 3) (c .before .before .band .result)
+  abbrev ends : ℕ
+  ends = top .loop .end - 3 * read .block-at .result .grades
+
+  written : Written (blocks top) (items top) (top .before .before .blocks-of .result) (3 * top .before .grades-of .result)
+      (now (begun top .args .out)) (c .write-block .last .1 .1 .1 .0) ends (top .loop .at - 3) (c .before .before .band .result)
   unfolding numbersOf sumOf
   written =
-      let f = at (turned read) in
-      let inv = turned read .loop .inv .1 in
+      let f = at top in
+      let inv = top .loop .inv .1 in
       let k = inv .between .count in
       let b = c .before .before .band .ensures in
-      let o = now (turned read .before .before .before .before .before .before .args .out) in
+      let o = now (begun top .args .out) in
       let x = read .block-at .result in
-      let split = f .block .from ∙ ap (λ y. y ∷ drop k (blocks (turned read))) (sym (is read)) in
-      let end = turned read .loop .end in
+      let split = f .block .from ∙ ap (λ y. y ∷ drop k (blocks top)) (sym (is read)) in
+      let end = top .loop .end in
       let short : end ≤ length o = omega (arith, inv .count, inv .room) in
-      let more = put-more o _ (turned read .loop .out) end ends (gradesOf x (x .grades)) (inv .same) (omega arith) short in
+      let more = put-more o _ (top .loop .out) end ends (gradesOf x (x .grades)) (inv .same) (omega arith) short in
       record {
         held = inv .held;
         full = inv .full;
@@ -179,11 +184,11 @@ returns : tie.Need-returns Inv-loop μ-loop
 returns c =
     let d = c .before .before .before in
     let w = written d in
-    let t = tableIn (now (turned (read d) .before .before .before .before .before .before .args .place)) in
+    let t = tableIn (now (begun (top d) .args .place)) in
     let none : w .between .count ≡ 0 = omega (arith, c .if1 .taken, w .between .same) in
-    let first : ends d ≡ 0 = omega (arith, w .all, rw none at (w .count)) in
-    let all : 3 * length t ≡ 3 * turned (read d) .before .grades-of .result = omega (arith, w .all, grades-count t) in
-    rw all (rw (none, first) at (w .same))
+    let whole : ends d ≡ 0 = omega (arith, w .all, rw none at (w .count)) in
+    let all : 3 * length t ≡ 3 * top d .before .grades-of .result = omega (arith, w .all, grades-count t) in
+    rw all (rw (none, whole) at (w .same))
 
 pub pool-spec : {M : Type 1} → statement M
 pool-spec =
