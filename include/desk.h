@@ -3,13 +3,15 @@
  *
  * TERMS. A rating scale sorts its obligors into grades, best first. Of a grade's n obligors d defaulted and s = n - d survived;
  * its announced rate is the default rate that the rater states for it, in ppm (millionths: 0.5% is 5000). A grade table has
- * 1 to 40 grades, n at least 1 and d at most n in each, and announced rates of at most 1,000,000; its totals are N, D and S, N
- * at most 1,000,000. A desk has two places, 1 and 2, each empty or holding one rater's table.
- * - Cutoff g, 0 to the number of grades, turns away the g worst grades. At prices u and v it costs u for each default that it
- *   misses (in a grade that it does not turn away) and v for each survivor that it turns away.
- * - Blocks are runs of neighbouring grades, rate = block defaults / block obligors, so cut that the rates are the monotone
- *   regression with weights n and strictly rise from block to block: neighbours whose rates fall or are equal are joined
- *   until none are left.
+ * 1 to 40 grades, d at most n in each, and announced rates of at most 1,000,000; its totals are N, D and S, N at most 1,000,000.
+ * A grade with n 0 is empty, and at least one grade is occupied, with n at least 1. Empty grades add nothing to any count, are
+ * numbered as grades all the same, and have no default rate of their own: who divides by n has to look for 0. A desk has two
+ * places, 1 and 2, each empty or holding one rater's table.
+ * - Cutoff g, 0 to the number of grades, turns away the g worst grades, empty ones among them. At prices u and v it costs u for
+ *   each default that it misses (in a grade that it does not turn away) and v for each survivor that it turns away.
+ * - Blocks are runs of neighbouring grades, the empty ones left out, rate = block defaults / block obligors, so cut that the rates
+ *   are the monotone regression with weights n and strictly rise from block to block: neighbours whose rates fall or are equal
+ *   are joined until none are left.
  * - Band b of a block is the smallest b from 0 to 13 with rate at most 100 * 2^b ppm, compared without rounding; 14 if none.
  * - Pairs are one defaulted with one surviving obligor: of C the defaulted one is in the worse grade, of X in the better, of T in
  *   the same. Gini is (C - X) / DS, the ROC area (2C + T) / 2DS, the CAP area (DN + C - X) / 2DN. Pietra is the yS - xD of
@@ -48,7 +50,7 @@
  * version does not link: the linker reports desk_library_is_version_N as undefined, N being the number below. Then take
  * header and library of one version and compile again. Who loads the library at run time by hand, and so does not link with
  * it, defines DESK_LOADED_BY_HAND before this header and compares desk_version() with DESK_VERSION. */
-#define DESK_VERSION 4
+#define DESK_VERSION 5
 
 #define DESK_GRADES 40            /* the most grades of a table */
 #define DESK_MAX_OBLIGORS 1000000 /* the most obligors of a table */
@@ -66,7 +68,7 @@
     X(DESK_REFUSED_GRADES, 6, "grade count outside 1 to 40") \
     X(DESK_REFUSED_KIND, 7, "kind above 1, or the two bytes after it not zero") \
     X(DESK_REFUSED_DEFAULTS, 8, "defaults above obligors (kind 0)") \
-    X(DESK_REFUSED_NO_OBLIGORS, 9, "n is 0 (n: obligors of a grade)") \
+    X(DESK_REFUSED_NO_OBLIGORS, 9, "all grades are empty (empty: without obligors)") \
     X(DESK_REFUSED_ANNOUNCED, 10, "announced above 1,000,000") \
     X(DESK_REFUSED_OBLIGORS, 11, "N above 1,000,000 (N: obligors of the table)") \
     X(DESK_REFUSED_PRICE, 12, "a price above 1,000,000") \
@@ -141,16 +143,17 @@ uint32_t desk_empty(Desk *desk);
  * make the losing scale win. After 31, 32 and 33, where a book is cut wrong, desk_wrong_cut says which table to look at, and where.
  * Writes: the place. Keeps: the other place, the book.
  * Refuses: 1, 21, 2, 3, 4; table by table 31 (start), 32 (header), 6, 7, 32 (rows); 33 (bytes left over); of the rater's rows,
- * one by one, 8, 9, 10; 11. */
+ * one by one, 8, 10; 9 (all are empty); 11. */
 uint32_t desk_load(Desk *desk, uint32_t place, const uint8_t *book, size_t length, uint32_t rater) DESK_CHECKED;
 
 /* Empties a loaded place.
  * Writes: the place, as zero bytes. Keeps: the other place. Refuses: 1, 22. */
 uint32_t desk_clear(Desk *desk, uint32_t place) DESK_CHECKED;
 
-/* The blocks of a table and their bands.
+/* The blocks of a table and their bands. An empty grade is in no block: for it the three numbers of the next better occupied grade
+ * are repeated, or those of the best occupied grade if none is better. So no grade is given a block without obligors.
  * Writes: three numbers for each grade, best first: defaults of its block, obligors of its block, band of its block.
- * Keeps: further numbers, the desk. Refuses: 1, 22, 13 (length under 3 for each grade). */
+ * Keeps: further numbers, the desk. Refuses: 1, 22, 13 (length under 3 for each grade, empty ones too). */
 uint32_t desk_pool(const Desk *desk, uint32_t place, uint32_t *numbers, size_t length) DESK_CHECKED;
 
 /* The cutoff that costs least at prices u and v; among equals the smallest.
@@ -221,7 +224,7 @@ static inline void desk_lay_out(DeskBook *book, DeskCounts counts, const DeskRow
 /* Makes a book of one table from rows: for a file, or to load later as rater 1 with desk_load.
  * rows has `grades` elements; with 0 or more than 40 of them none is read, and rows may be null.
  * Writes: book->length, and as many of book->bytes. Keeps: further bytes, the rows.
- * Refuses as desk_load of that book would: 6, 7 (counts is neither); of the rows, one by one, 8, 9, 10; 11. */
+ * Refuses as desk_load of that book would: 6, 7 (counts is neither); of the rows, one by one, 8, 10; 9 (all are empty); 11. */
 DESK_CHECKED static inline uint32_t desk_book(DeskBook *book, DeskCounts counts, const DeskRow *rows, size_t grades)
 {
     Desk desk;
@@ -240,7 +243,7 @@ DESK_CHECKED static inline uint32_t desk_book(DeskBook *book, DeskCounts counts,
 /* Fills an empty place with a table of rows, as desk_load does with their book.
  * rows has `grades` elements; with 0 or more than 40 of them none is read, and rows may be null.
  * Writes: the place. Keeps: the other place, the rows.
- * Refuses: 1, 21, 6, 7 (counts is neither); of the rows, one by one, 8, 9, 10; 11. */
+ * Refuses: 1, 21, 6, 7 (counts is neither); of the rows, one by one, 8, 10; 9 (all are empty); 11. */
 DESK_CHECKED static inline uint32_t desk_load_rows(Desk *desk, uint32_t place, DeskCounts counts, const DeskRow *rows, size_t grades)
 {
     DeskBook laid_out;

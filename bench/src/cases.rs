@@ -78,6 +78,15 @@ fn random(seed: u64) -> Table {
     table(&(0..GRADES).map(&mut grade).collect::<Vec<_>>())
 }
 
+/// Every second grade of the rising table is empty, the best one among them.
+fn half_empty() -> Table {
+    let mut half = rising();
+    for grade in half.grades.iter_mut().step_by(2) {
+        (grade.obligors, grade.defaults) = (0, 0);
+    }
+    half
+}
+
 /// The same rows in another order: D and S stay.
 fn shuffled(of: &Table, seed: u64) -> Table {
     let mut shuffled = of.clone();
@@ -115,6 +124,7 @@ pub fn cases() -> Vec<Case> {
         case("pool", "random", Call::Pool, alone(mixed.clone())),
         case("pool", "one block", Call::Pool, alone(falling())),
         case("pool", "40 blocks, then one", Call::Pool, alone(collapsing())),
+        case("pool", "every second grade empty", Call::Pool, alone(half_empty())),
         case("cheapest", "40 blocks", prices, alone(rising())),
         case("cheapest", "random", prices, alone(mixed.clone())),
         case("compare", "equal, 40 blocks", Call::Compare, alone(rising())),
@@ -162,6 +172,7 @@ mod tests {
         assert_eq!(counts(&falling()), 1);
         assert_eq!(counts(&collapsing()), 1);
         assert_eq!((counts(&blurred(6)), counts(&blurred(8))), (40, 40));
+        assert_eq!(counts(&half_empty()), 20);
         let inner = Table {
             grades: collapsing().grades[1..].to_vec(),
         };

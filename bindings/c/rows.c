@@ -21,6 +21,7 @@ typedef struct {
 
 static int failures = 0;
 static size_t answered[REFUSALS]; /* how often desk_load_rows answered each number */
+static size_t with_empty_grades;  /* how often it accepted a table with an empty grade */
 
 static void holds(bool fact, const char *text, uint32_t place, const Table *table)
 {
@@ -45,7 +46,7 @@ static void *copy_on_heap(const void *from, size_t size)
     return size > 0 ? memcpy(copy, from, size) : copy;
 }
 
-/* The rules, as document 01 has them. */
+/* The rules, as documents 01 and 02 have them. */
 
 static bool has_grades(const Table *table) { return table->grades >= 1 && table->grades <= 40; }
 
@@ -60,12 +61,12 @@ static uint32_t fault_of_rows(const Table *table)
     uint64_t obligors = 0;
     for (size_t i = 0; i < table->grades; i++) {
         const uint64_t n = obligors_of(table, i);
-        if (table->rows[i].defaults > n || n == 0 || table->rows[i].announced > MILLION) {
-            return table->rows[i].defaults > n ? 8 : n == 0 ? 9 : 10;
+        if (table->rows[i].defaults > n || table->rows[i].announced > MILLION) {
+            return table->rows[i].defaults > n ? 8 : 10;
         }
         obligors += n;
     }
-    return obligors > MILLION ? 11 : 0;
+    return obligors == 0 ? 9 : obligors > MILLION ? 11 : 0;
 }
 
 static uint32_t fault_of_table(const Table *table)
@@ -82,6 +83,15 @@ static uint32_t fault_of_load(const Desk *desk, uint32_t place, const Table *tab
         return 1;
     }
     return (place == 1 ? desk->first.loaded : desk->second.loaded) ? 21 : fault_of_table(table);
+}
+
+static bool has_empty_grade(const Table *table)
+{
+    bool found = false;
+    for (size_t i = 0; i < table->grades; i++) {
+        found = found || obligors_of(table, i) == 0;
+    }
+    return found;
 }
 
 /* Whether a place holds a table. */
@@ -131,6 +141,7 @@ static uint32_t try_load_rows(const Desk *before, uint32_t place, const Table *t
     holds(memcmp(desk, &loaded, sizeof loaded) == 0, "desk_load_rows leaves the desk of desk_load", place, table);
     if (number == 0) {
         holds(holds_table(place == 1 ? &desk->first : &desk->second, table), "the place holds the table", place, table);
+        with_empty_grades += has_empty_grade(table);
     } else {
         holds(memcmp(desk, before, sizeof *before) == 0, "a refusal keeps the desk", place, table);
     }
@@ -252,10 +263,37 @@ static void faults_of_rows(void)
     expect(0, by_survivors, ROWS({0, 1, 0}));
     expect(8, by_obligors, ROWS({0, UINT32_MAX, 0}));
     expect(9, by_obligors, ROWS({0, 0, 0}));
-    expect(9, by_survivors, ROWS({1, 0, 0}, {0, 0, 0}));
+    expect(9, by_survivors, ROWS({0, 0, 0}));
+    expect(9, by_obligors, ROWS({0, 0, 0}, {0, 0, MILLION}, {0, 0, 5}));
+    expect(9, by_survivors, ROWS({0, 0, 0}, {0, 0, MILLION}, {0, 0, 5}));
     expect(0, by_obligors, ROWS({1, 0, MILLION}));
     expect(10, by_obligors, ROWS({1, 0, MILLION + 1}));
     expect(10, by_survivors, ROWS({1, 0, UINT32_MAX}));
+}
+
+/* Empty grades, everywhere and as many as there may be, beside one that is occupied or none. */
+static void empty_grades(void)
+{
+    DeskRow rows[DESK_GRADES] = {{0, 0, 0}};
+    expect(0, by_obligors, ROWS({0, 0, 0}, {10, 2, 0}, {10, 1, 0}, {20, 4, 0}));
+    expect(0, by_obligors, ROWS({10, 2, 0}, {0, 0, 0}, {10, 1, 0}, {0, 0, 0}, {20, 4, 0}, {0, 0, 0}));
+    expect(0, by_survivors, ROWS({1, 0, 0}, {0, 0, 0}));
+    expect(0, by_survivors, ROWS({0, 0, 0}, {0, 1, 0}));
+    expect(0, by_obligors, ROWS({0, 0, 0}, {MILLION, 1, 0}, {0, 0, 0}));
+    for (size_t grades = 1; grades <= DESK_GRADES; grades++) {
+        expect(9, by_obligors, rows, grades);
+        expect(9, by_survivors, rows, grades);
+        rows[grades - 1] = (DeskRow){1, 0, 0};
+        expect(0, by_obligors, rows, grades);
+        expect(0, by_obligors, rows, DESK_GRADES);
+        rows[grades - 1] = (DeskRow){0, 1, 0};
+        expect(8, by_obligors, rows, DESK_GRADES);
+        expect(0, by_survivors, rows, DESK_GRADES);
+        rows[grades - 1] = (DeskRow){0, 0, MILLION + 1};
+        expect(10, by_obligors, rows, DESK_GRADES);
+        expect(10, by_survivors, rows, DESK_GRADES);
+        rows[grades - 1] = (DeskRow){0, 0, 0};
+    }
 }
 
 static void sums(void)
@@ -282,13 +320,18 @@ static void orders(void)
 {
     expect(8, by_obligors, ROWS({5, 6, MILLION + 1}));
     expect(8, by_obligors, ROWS({0, 1, MILLION + 1}));
-    expect(9, by_obligors, ROWS({0, 0, MILLION + 1}));
-    expect(9, by_survivors, ROWS({0, 0, MILLION + 1}));
-    expect(9, by_obligors, ROWS({0, 0, 0}, {5, 6, 0}));
+    expect(10, by_obligors, ROWS({0, 0, MILLION + 1}));
+    expect(10, by_survivors, ROWS({0, 0, MILLION + 1}));
+    expect(10, by_obligors, ROWS({0, 0, 0}, {0, 0, MILLION + 1}));
+    expect(8, by_obligors, ROWS({0, 0, 0}, {0, 1, 0}));
+    expect(8, by_obligors, ROWS({0, 0, 0}, {5, 6, 0}));
+    expect(8, by_obligors, ROWS({5, 6, 0}, {5, 5, MILLION + 1}));
+    expect(10, by_obligors, ROWS({5, 5, MILLION + 1}, {5, 6, 0}));
     expect(10, by_obligors, ROWS({5, 5, MILLION + 1}, {0, 0, 0}));
     expect(10, by_obligors, ROWS({MILLION + 1, 0, 0}, {1, 0, MILLION + 1}));
     expect(8, by_obligors, ROWS({MILLION + 1, 0, 0}, {1, 2, 0}));
-    expect(9, by_survivors, ROWS({UINT32_MAX, UINT32_MAX, 0}, {0, 0, 0}));
+    expect(11, by_survivors, ROWS({UINT32_MAX, UINT32_MAX, 0}, {0, 0, 0}));
+    expect(11, by_obligors, ROWS({0, 0, 0}, {MILLION + 1, 0, 0}));
 }
 
 /* Places that are none, and loaded ones, come before any fault of the table. */
@@ -361,6 +404,12 @@ static void random_case(void)
     for (uint64_t faults = one_in(2) ? random_below(4) : 0; faults > 0 && table.grades > 0; faults--) {
         spoil(&rows[random_below(table.grades)]);
     }
+    const uint64_t kept = one_in(8) ? 1 + random_below(3) : 0; /* 0: as they are; 1: all emptied; 2, 3: all but every second or third */
+    for (size_t i = 0; i < table.grades && kept > 0; i++) {
+        if (kept == 1 || i % kept != 0) {
+            rows[i].count = rows[i].defaults = 0;
+        }
+    }
     const Desk before = desk_with(one_in(3) ? (unsigned)random_below(4) : 0);
     try_table(&before, one_in(20) ? (uint32_t)random_below(600) : 1 + (uint32_t)random_below(2), table, table.grades);
 }
@@ -370,6 +419,7 @@ static void random_cases(unsigned long cases)
 {
     const uint32_t numbers[] = {0, 1, 6, 7, 8, 9, 10, 11, 21};
     memset(answered, 0, sizeof answered);
+    with_empty_grades = 0;
     for (unsigned long i = 0; i < cases && failures < 20; i++) {
         random_case();
     }
@@ -379,6 +429,10 @@ static void random_cases(unsigned long cases)
             failures++;
         }
     }
+    if (with_empty_grades < cases / 100) {
+        fprintf(stderr, "rows: %zu of %lu random tables are accepted with an empty grade\n", with_empty_grades, cases);
+        failures++;
+    }
 }
 
 int main(int count, char **words)
@@ -386,6 +440,7 @@ int main(int count, char **words)
     numbers_of_grades();
     kinds();
     faults_of_rows();
+    empty_grades();
     sums();
     orders();
     places();

@@ -1,4 +1,4 @@
-/* The worked tables a to k of document 01, and R-1's of document 02, through the C interface. Prints each fact that does not hold. */
+/* The worked tables a to k of document 01, and those of of document 02, through the C interface. Prints each fact that does not hold. */
 #include "desk.h"
 
 #include <stdbool.h>
@@ -149,6 +149,55 @@ static void r1_smaller_cutoff(void)
     HOLDS(is(measures.gini, 0, 4) && is(measures.pietra, -2, 4) && measures.cutoff == 1);
 }
 
+/* Document 02, R-4: K's rows with empty grades among them. `pooled` is what pool writes for `grades` grades, no number more. */
+static void pools_to(const uint32_t *pooled, const DeskRow *rows, size_t grades)
+{
+    uint32_t numbers[DESK_POOL_NUMBERS], before[DESK_POOL_NUMBERS];
+    Desk desk = desk_of(rows, grades), again;
+    memset(numbers, 0xA5, sizeof numbers);
+    memcpy(before, numbers, sizeof before);
+    HOLDS(desk_pool(&desk, 1, numbers, 3 * grades - 1) == DESK_REFUSED_BUFFER);
+    HOLDS(memcmp(numbers, before, sizeof before) == 0);
+    HOLDS(desk_pool(&desk, 1, numbers, 3 * grades) == 0);
+    HOLDS(memcmp(numbers, pooled, 3 * grades * sizeof *numbers) == 0);
+    HOLDS(memcmp(numbers + 3 * grades, before, sizeof before - 3 * grades * sizeof *numbers) == 0);
+    uint8_t book[DESK_BOOK_BYTES];
+    size_t written = 0;
+    desk_empty(&again);
+    HOLDS(desk_write(&desk, book, sizeof book, &written) == 0 && written == 10 + 12 * grades);
+    HOLDS(desk_load(&again, 1, book, written, 1) == 0 && memcmp(&again, &desk, sizeof desk) == 0);
+}
+
+#define NUMBERS(...) (const uint32_t[]){__VA_ARGS__}
+static void r4_pooling(void)
+{
+    pools_to(NUMBERS(3, 20, 11, 3, 20, 11, 3, 20, 11, 4, 20, 11), TABLE({0, 0, 0}, {10, 2, 0}, {10, 1, 0}, {20, 4, 0}));
+    pools_to(NUMBERS(3, 20, 11, 3, 20, 11, 4, 20, 11, 4, 20, 11), TABLE({10, 2, 0}, {10, 1, 0}, {20, 4, 0}, {0, 0, 0}));
+    pools_to(NUMBERS(3, 20, 11, 3, 20, 11, 3, 20, 11, 4, 20, 11), TABLE({10, 2, 0}, {0, 0, 0}, {10, 1, 0}, {20, 4, 0}));
+    pools_to(NUMBERS(3, 20, 11, 3, 20, 11, 3, 20, 11, 4, 20, 11), TABLE({10, 2, 0}, {10, 1, 0}, {0, 0, 0}, {20, 4, 0}));
+    pools_to(NUMBERS(4, 20, 11, 4, 20, 11, 4, 20, 11, 4, 20, 11), TABLE({0, 0, 0}, {0, 0, 0}, {20, 4, 0}, {0, 0, 0}));
+}
+
+/* An empty grade adds nothing to any count, and cutoffs number it. */
+static void r4_counts_and_cutoffs(void)
+{
+    Desk desk = desk_of(TABLE({0, 0, 900000}, {10, 2, 100000}, {10, 1, 150000}, {0, 0, 0}, {20, 4, 200000}, {0, 0, 1}));
+    HOLDS(desk_load(&desk, 2, book_k, sizeof book_k, 1) == 0);
+    DeskMeasures measures;
+    HOLDS(desk_measures(&desk, 1, &measures) == 0 && is(measures.gini, 10, 231));
+    HOLDS(measures.defaults == 7 && measures.survivors == 33);
+    DeskFraction brier;
+    HOLDS(desk_brier(&desk, 1, &brier) == 0 && is(brier, 5825000000000, 40000000000000));
+    DeskSpread with, without;
+    HOLDS(desk_spread(&desk, 1, &with) == 0 && desk_spread(&desk, 2, &without) == 0);
+    HOLDS(memcmp(&with, &without, sizeof with) == 0);
+    HOLDS(verdict_of(&desk).kind == DESK_EQUAL);
+    DeskCutoff cheapest;
+    desk = desk_of(TABLE({0, 0, 0}, {5, 2, 0}, {0, 0, 0}, {1, 1, 0}, {0, 0, 0}, {0, 0, 0}));
+    HOLDS(desk_cheapest(&desk, 1, 1, 3, &cheapest) == 0 && cheapest.cutoff == 3 && cheapest.cost == 2);
+    HOLDS(desk_measures(&desk, 1, &measures) == 0 && is(measures.pietra, 3, 9) && measures.cutoff == 3);
+}
+
 static void g_first_and_second(void)
 {
     Desk desk = desk_of(TABLE({2, 0, 0}, {2, 1, 0}, {2, 2, 0}));
@@ -190,6 +239,12 @@ static void k_limits(void)
     HOLDS(load_alone(TABLE({DESK_MAX_OBLIGORS + 1, 1, 0})) == DESK_REFUSED_OBLIGORS);
     HOLDS(load_alone(TABLE({1, 0, 0})) == 0);
     HOLDS(load_alone(TABLE({0, 0, 0})) == DESK_REFUSED_NO_OBLIGORS);
+    HOLDS(load_alone(TABLE({0, 0, 0}, {0, 0, 0})) == DESK_REFUSED_NO_OBLIGORS);
+    HOLDS(load_alone(TABLE({0, 0, 0}, {1, 0, 0})) == 0 && load_alone(TABLE({1, 0, 0}, {0, 0, 0})) == 0);
+    HOLDS(load_alone(TABLE({0, 0, 1000001}, {0, 0, 0})) == DESK_REFUSED_ANNOUNCED);
+    HOLDS(load_alone(TABLE({0, 1, 0}, {1, 0, 0})) == DESK_REFUSED_DEFAULTS);
+    HOLDS(load_alone(TABLE({0, 0, 0}, {DESK_MAX_OBLIGORS, 1, 0})) == 0);
+    HOLDS(load_alone(TABLE({0, 0, 0}, {DESK_MAX_OBLIGORS + 1, 1, 0})) == DESK_REFUSED_OBLIGORS);
     DeskRow rows[DESK_GRADES + 1];
     for (size_t i = 0; i <= DESK_GRADES; i++) {
         rows[i] = (DeskRow){1, 0, 0};
@@ -222,6 +277,8 @@ int main(void)
     e_five_grades();
     f_reversed();
     r1_smaller_cutoff();
+    r4_pooling();
+    r4_counts_and_cutoffs();
     g_first_and_second();
     h_crossing();
     i_equal();

@@ -135,6 +135,8 @@ static const Case cases[] = {
     {FIRST, 0, 6, 37, LENGTH, 0, {0, 0, 0, 0}},                    /* behind 6 and 7 */
     {MIDDLE + 1, 2, 8, 0, LENGTH + 1, 0, {0, 0, 0, 0}},
     {4, 11, FIRST, 0, LENGTH, 31, {1, 4, FIRST, 11}},              /* and before them */
+    {FIRST + 4, 0, FIRST + 16, 0, LENGTH, 0, {0, 0, 0, 0}},        /* all grades of the table empty: none, and before 9 */
+    {FIRST + 4, 0, FIRST + 16, 0, LENGTH + 1, 33, {3, LENGTH, LENGTH, LENGTH + 1}},
 };
 
 static void directed(void)

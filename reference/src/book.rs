@@ -72,7 +72,8 @@ fn check_table(book: &[u8], start: usize) -> Result<usize, Refusal> {
     Ok(end)
 }
 
-/// Refusals 8, 9, 10 row by row, then 11.
+/// Refusals 8, 10 row by row, then 9, then 11: R-4 has moved 9 out of the rows, to where it is
+/// known whether all grades are empty.
 fn read_table(book: &[u8], start: usize) -> Result<Table, Refusal> {
     let grade_count = book[start] as usize;
     let kind = book[start + 1];
@@ -82,6 +83,9 @@ fn read_table(book: &[u8], start: usize) -> Result<Table, Refusal> {
         grades.push(read_row(book, row, kind)?);
     }
     let table = Table { grades };
+    if !table.grades.iter().any(Grade::is_occupied) {
+        return Err(9);
+    }
     if table.obligors() > MAX_OBLIGORS {
         return Err(11);
     }
@@ -89,19 +93,11 @@ fn read_table(book: &[u8], start: usize) -> Result<Table, Refusal> {
 }
 
 fn read_row(book: &[u8], row: usize, kind: u8) -> Result<Grade, Refusal> {
-    let first_column = four_bytes(book, row);
+    let obligors = obligors_of_row(book, row, kind);
     let defaults = four_bytes(book, row + 4);
     let announced = four_bytes(book, row + 8);
-    if kind == 0 && defaults > first_column {
+    if kind == 0 && defaults > obligors {
         return Err(8);
-    }
-    // Kind 1 gives survivors in the first column. The sum is a true sum: u64 does not wrap here.
-    let obligors = match kind {
-        0 => first_column,
-        _ => first_column + defaults,
-    };
-    if obligors == 0 {
-        return Err(9);
     }
     if announced > MILLION {
         return Err(10);
@@ -111,6 +107,26 @@ fn read_row(book: &[u8], row: usize, kind: u8) -> Result<Grade, Refusal> {
         defaults,
         announced,
     })
+}
+
+/// Kind of first column and n of each grade, of a book whose layout is sound; its rows need not be.
+pub fn obligors(book: &[u8], rater: u32) -> (u8, Vec<u64>) {
+    let start = two_bytes(book, HEAD_BYTES + 2 * (rater as usize - 1));
+    let kind = book[start + 1];
+    let of_grade = |index: usize| {
+        let row = start + TABLE_HEAD_BYTES + ROW_BYTES * index;
+        obligors_of_row(book, row, kind)
+    };
+    (kind, (0..book[start].into()).map(of_grade).collect())
+}
+
+/// Kind 1 gives survivors in the first column. The sum is a true sum: u64 does not wrap here.
+fn obligors_of_row(book: &[u8], row: usize, kind: u8) -> u64 {
+    let first_column = four_bytes(book, row);
+    match kind {
+        0 => first_column,
+        _ => first_column + four_bytes(book, row + 4),
+    }
 }
 
 fn two_bytes(book: &[u8], at: usize) -> usize {

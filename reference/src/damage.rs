@@ -31,15 +31,15 @@ pub const WAYS: [Way; 26] = [
     (33, cuts::leave_rows),
     (8, defaults_above_obligors),
     (8, defaults_of_nobody),
-    (9, empty_grade),
     (10, announced_above),
+    (9, all_grades_empty),
     (11, one_obligor_too_many),
     (11, wrapping_row),
     (11, wrapping_total),
 ];
 
 /// The numbers of `WAYS` in the order in which load comes to them first.
-pub const LOAD_ORDER: [Refusal; 12] = [2, 3, 4, 31, 32, 6, 7, 33, 8, 9, 10, 11];
+pub const LOAD_ORDER: [Refusal; 12] = [2, 3, 4, 31, 32, 6, 7, 33, 8, 10, 9, 11];
 
 /// Grade counts outside 1 to 40.
 pub(crate) const COUNTS_OUTSIDE: [u8; 4] = [0, 41, 42, 255];
@@ -175,7 +175,7 @@ fn any_row(random: &mut Random, draft: &Draft) -> usize {
     random.index(draft.grade_count(draft.loaded()))
 }
 
-fn put_number(draft: &mut Draft, grade: usize, column: Column, number: u32) {
+pub(crate) fn put_number(draft: &mut Draft, grade: usize, column: Column, number: u32) {
     let at = draft.column(draft.loaded(), grade, column);
     draft.put(at, &number.to_le_bytes());
 }
@@ -184,7 +184,7 @@ fn get_number(draft: &Draft, grade: usize, column: Column) -> u32 {
     draft.number(draft.column(draft.loaded(), grade, column))
 }
 
-fn set_kind(draft: &mut Draft, kind: u8) {
+pub(crate) fn set_kind(draft: &mut Draft, kind: u8) {
     draft.put(draft.start(draft.loaded()) + 1, &[kind]);
 }
 
@@ -196,7 +196,7 @@ fn defaults_above_obligors(random: &mut Random, draft: &mut Draft) {
     put_number(draft, grade, Column::Defaults, defaults);
 }
 
-/// Kind 0 with no obligor and a default: 8 stands before 9.
+/// Kind 0 with no obligor and a default: 8, for all that the grade may be empty.
 fn defaults_of_nobody(random: &mut Random, draft: &mut Draft) {
     let grade = any_row(random, draft);
     set_kind(draft, 0);
@@ -204,10 +204,11 @@ fn defaults_of_nobody(random: &mut Random, draft: &mut Draft) {
     put_number(draft, grade, Column::Defaults, 1);
 }
 
-fn empty_grade(random: &mut Random, draft: &mut Draft) {
-    let grade = any_row(random, draft);
-    put_number(draft, grade, Column::First, 0);
-    put_number(draft, grade, Column::Defaults, 0);
+fn all_grades_empty(_: &mut Random, draft: &mut Draft) {
+    for grade in 0..draft.grade_count(draft.loaded()) {
+        put_number(draft, grade, Column::First, 0);
+        put_number(draft, grade, Column::Defaults, 0);
+    }
 }
 
 fn announced_above(random: &mut Random, draft: &mut Draft) {
@@ -256,6 +257,5 @@ fn wrapping_total(random: &mut Random, draft: &mut Draft) {
 
 /// Kind 1, so that no row has too many defaults.
 fn set_kind_for_any_defaults(draft: &mut Draft) {
-    // As survivors the old first column keeps every n at 1 or more.
     set_kind(draft, 1);
 }

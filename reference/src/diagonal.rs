@@ -12,7 +12,7 @@ pub fn table_for_pietra(random: &mut Random) -> Table {
     let maker: fn(&mut Random) -> Table = random.weighted(&[
         (2, upside_down as fn(&mut Random) -> Table),
         (7, several_peaks),
-        (4, one_apart),
+        (6, one_apart),
         (1, noise),
     ]);
     let mut table = maker(random);

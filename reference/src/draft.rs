@@ -184,6 +184,9 @@ pub(crate) fn any_tables(random: &mut Random, raters: usize, most_grades: usize)
     let mut tables: Vec<Table> = (0..raters).map(|_| any_table(random)).collect();
     for table in &mut tables {
         table.grades.truncate(most_grades);
+        if table.obligors() == 0 {
+            table.grades[0].obligors = 1;
+        }
     }
     tables
 }

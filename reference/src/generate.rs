@@ -5,6 +5,8 @@ use crate::band_scene::{every_edge, Edge};
 use crate::cut_scene::{every_cut, Cut};
 use crate::desk::Desk;
 use crate::draft::Draft;
+use crate::empty_scene::{every_pattern, Pattern};
+use crate::nearly_empty_scene::{every_rows, Rows};
 use crate::pair_scene::{every_pair, FaultPair};
 use crate::random::Random;
 use crate::scenes::SCENES;
@@ -21,20 +23,21 @@ pub struct Script {
     pub tail: Vec<u8>,
 }
 
-/// What is wrong with the layout of books, by the index of the call that loads them.
+/// What scenes have done to books, by the index of the call that loads them.
 #[derive(Default)]
-pub(crate) struct WrongLayouts {
+pub(crate) struct Marks {
     pub cuts: BTreeMap<usize, Cut>,
     pub pairs: BTreeMap<usize, FaultPair>,
+    pub rows: BTreeMap<usize, Rows>,
 }
 
 impl Script {
     pub fn generate(seed: u64, calls: usize) -> Script {
-        Script::with_layouts(seed, calls).0
+        Script::with_marks(seed, calls).0
     }
 
-    /// The script, and what is wrong with the books of its scenes about the layout.
-    pub(crate) fn with_layouts(seed: u64, calls: usize) -> (Script, WrongLayouts) {
+    /// The script, and what its scenes have done to books.
+    pub(crate) fn with_marks(seed: u64, calls: usize) -> (Script, Marks) {
         let mut generator = Generator::of_seed(seed);
         while generator.calls.len() < calls {
             generator.scene();
@@ -50,7 +53,7 @@ impl Script {
             scenes: generator.scenes,
             tail,
         };
-        (script, generator.wrong)
+        (script, generator.marks)
     }
 
     /// The script that these bytes are.
@@ -78,10 +81,12 @@ pub struct Generator {
     pub desk: Desk,
     calls: Vec<Call>,
     scenes: Vec<&'static str>,
-    wrong: WrongLayouts,
+    marks: Marks,
     cuts_to_come: Vec<Cut>,
     pairs_to_come: Vec<FaultPair>,
     edges_to_come: Vec<Edge>,
+    patterns_to_come: Vec<Pattern>,
+    rows_to_come: Vec<Rows>,
     name: &'static str,
 }
 
@@ -92,10 +97,12 @@ impl Generator {
             desk: Desk::fresh(),
             calls: vec![],
             scenes: vec![],
-            wrong: WrongLayouts::default(),
+            marks: Marks::default(),
             cuts_to_come: vec![],
             pairs_to_come: vec![],
             edges_to_come: vec![],
+            patterns_to_come: vec![],
+            rows_to_come: vec![],
             name: "",
         }
     }
@@ -136,15 +143,29 @@ impl Generator {
         self.random.deal(&mut self.edges_to_come, every_edge)
     }
 
+    pub(crate) fn next_pattern(&mut self) -> Pattern {
+        self.random.deal(&mut self.patterns_to_come, every_pattern)
+    }
+
+    pub(crate) fn next_rows(&mut self) -> Rows {
+        self.random.deal(&mut self.rows_to_come, every_rows)
+    }
+
     /// A load of a book that is cut wrong in this manner.
     pub(crate) fn load_cut(&mut self, place: u32, draft: Draft, cut: Cut) {
-        self.wrong.cuts.insert(self.calls.len(), cut);
+        self.marks.cuts.insert(self.calls.len(), cut);
         self.load(place, draft);
     }
 
     /// A load of a book that has these two faults.
     pub(crate) fn load_faulty(&mut self, place: u32, draft: Draft, pair: FaultPair) {
-        self.wrong.pairs.insert(self.calls.len(), pair);
+        self.marks.pairs.insert(self.calls.len(), pair);
+        self.load(place, draft);
+    }
+
+    /// A load of such a table of empty grades.
+    pub(crate) fn load_rows(&mut self, place: u32, draft: Draft, rows: Rows) {
+        self.marks.rows.insert(self.calls.len(), rows);
         self.load(place, draft);
     }
 

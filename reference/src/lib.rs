@@ -1,4 +1,4 @@
-//! The rating scale desk in plain Rust, written from document 01, requests of document
+//! The rating scale desk in plain Rust, written from document 01, requests of document
 //! 02 and REPLAY.md alone: a second opinion on the proved library. Everything is done by
 //! definition, not cleverly, so that it can be read next to the documents.
 //!
@@ -6,8 +6,9 @@
 //! * the scripts of REPLAY.md: `script` (calls), `answer` (lines);
 //! * the generator: `random`, `population` (tables), `partners` (pairs of tables), `diagonal`
 //!   (tables for Pietra), `draft` (books), `damage` and `cuts` (of books), `operands`, `scenes`,
-//!   `cut_scene`, `pair_scene`, `band_scene`, `tail`, `generate`;
-//! * the comparison: `compare`, `tally`;
+//!   `cut_scene`, `pair_scene`, `band_scene`, `empty_scene`, `nearly_empty_scene`, `tail`,
+//!   `generate`;
+//! * the comparison: `compare`, `tally`, `empty_tally`;
 //! * `natural`: whole numbers of any size, for the bound on the residual.
 
 pub mod answer;
@@ -21,9 +22,12 @@ pub mod damage;
 pub mod desk;
 pub mod diagonal;
 pub mod draft;
+pub mod empty_scene;
+pub(crate) mod empty_tally;
 pub mod generate;
 pub mod measures;
 pub mod natural;
+pub mod nearly_empty_scene;
 pub mod operands;
 pub mod pair_scene;
 pub mod partners;

@@ -12,9 +12,12 @@ impl Generator {
         self.random.weighted(&[(10, 1), (10, 2), (1, wrong)])
     }
 
-    /// Buffers for pool: none, one too short, exact, longer, longest.
+    /// Buffers for pool: none, one too short, exact, longer, longest, enough for the occupied
+    /// grades.
     pub fn pool_length(&mut self, place: u32) -> u32 {
-        let grades = self.desk.table(place).map_or(3, |table| table.grades.len());
+        let table = self.desk.table(place);
+        let grades = table.map_or(3, |table| table.grades.len());
+        let occupied = table.map_or(3, |table| table.occupied());
         let exact = 3 * grades as u32;
         let any = self.random.between(0, MAX_POOL_LENGTH as u64) as u32;
         self.random.weighted(&[
@@ -23,6 +26,7 @@ impl Generator {
             (6, exact),
             (3, exact + 1),
             (1, grades as u32),
+            (1, 3 * occupied as u32),
             (1, MAX_POOL_LENGTH),
             (1, any),
         ])

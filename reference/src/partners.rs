@@ -173,15 +173,17 @@ fn finer(random: &mut Random, base: &Table) -> Table {
     Table::of_rows(&rows)
 }
 
-/// These defaults and survivors, sorted at random into at most so many grades.
+/// These defaults and survivors, sorted at random into at most so many grades, seldom with empty
+/// ones among them.
 fn partition(random: &mut Random, defaults: u64, survivors: u64, most_grades: usize) -> Table {
     let bad = shares(random, defaults, most_grades);
     let good = shares(random, survivors, most_grades);
+    let keeps_empty = random.chance(15);
     let rows: Vec<(u64, u64)> = bad
         .into_iter()
         .zip(good)
         .map(|(bad, good)| (bad + good, bad))
-        .filter(|row| row.0 > 0)
+        .filter(|row| keeps_empty || row.0 > 0)
         .collect();
     Table::of_rows(&rows)
 }
@@ -209,7 +211,7 @@ fn nudged(random: &mut Random, base: &Table) -> Table {
             true => leaves.defaults,
             false => leaves.survivors(),
         };
-        if present > 0 && leaves.obligors > 1 {
+        if present > 0 {
             table.grades[from].obligors -= 1;
             table.grades[from].defaults -= u64::from(of_default);
             table.grades[to].obligors += 1;

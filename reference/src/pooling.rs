@@ -1,6 +1,7 @@
-//! Pooling: the monotone regression of the default rates on the grades, with weights n, by the
-//! min-max formula. The pooled rate of grade i is the largest over a <= i of the smallest over
-//! b >= i of the rate of the joined grades a to b.
+//! Pooling: the monotone regression of the default rates on the occupied grades, with weights n,
+//! by the min-max formula. The pooled rate of grade i is the largest over a <= i of the smallest
+//! over b >= i of the rate of the joined grades a to b. An empty grade has no rate: request R-4 of
+//! document 02 says whose numbers pool repeats for it.
 
 use crate::table::{Grade, Table};
 use std::cmp::Ordering;
@@ -47,19 +48,29 @@ fn pooled_rate(grades: &[Grade], index: usize) -> Rate {
         .expect("the grade itself is a start")
 }
 
-/// A block: a maximal run of grades with equal pooled rate, counts joined.
+/// A block: a maximal run of occupied grades with equal pooled rate, counts joined. Empty grades
+/// may stand between them and belong to no block.
 #[derive(Clone, Copy, Debug, PartialEq, Eq)]
 pub struct Block {
+    /// Both occupied, counted among all grades of the table.
     pub first: usize,
     pub last: usize,
     pub rate: Rate,
 }
 
+/// Which grades of the table are occupied, counted from 0 among all of them.
+fn occupied(table: &Table) -> Vec<usize> {
+    (0..table.grades.len())
+        .filter(|&index| table.grades[index].is_occupied())
+        .collect()
+}
+
 /// The blocks of a table, best first.
 pub fn blocks(table: &Table) -> Vec<Block> {
-    let grades = &table.grades;
+    let indices = occupied(table);
+    let grades: Vec<Grade> = indices.iter().map(|&index| table.grades[index]).collect();
     let rates: Vec<Rate> = (0..grades.len())
-        .map(|index| pooled_rate(grades, index))
+        .map(|index| pooled_rate(&grades, index))
         .collect();
     let mut blocks = Vec::new();
     let mut first = 0;
@@ -67,12 +78,27 @@ pub fn blocks(table: &Table) -> Vec<Block> {
         let ends_here =
             last + 1 == grades.len() || rates[last].compare(&rates[last + 1]) != Ordering::Equal;
         if ends_here {
-            let rate = joined(&grades[first..=last]);
-            blocks.push(Block { first, last, rate });
+            blocks.push(Block {
+                first: indices[first],
+                last: indices[last],
+                rate: joined(&grades[first..=last]),
+            });
             first = last + 1;
         }
     }
     blocks
+}
+
+/// The grade whose numbers pool writes for this one: the grade itself if it is occupied, else the
+/// next better occupied one, else, if none is better, the best occupied one.
+fn spoken_for(table: &Table, index: usize) -> usize {
+    let occupied = occupied(table);
+    if occupied.contains(&index) {
+        return index;
+    }
+    let better = occupied.iter().copied().filter(|&other| other < index);
+    let best = occupied.iter().copied().min();
+    better.max().or(best).expect("a loaded table has obligors")
 }
 
 /// The smallest b from 0 to 13 with rate at most 100 times 2^b ppm; 14 if there is none.
@@ -86,20 +112,23 @@ pub fn band(rate: &Rate) -> u32 {
         .unwrap_or(14)
 }
 
-/// What pool writes: block defaults, block obligors and band of each grade.
+/// What pool writes: block defaults, block obligors and band of each grade, empty ones too.
 pub fn pool(table: &Table) -> Vec<u32> {
+    let blocks = blocks(table);
     let mut numbers = Vec::new();
-    for block in blocks(table) {
-        for _grade in block.first..=block.last {
-            numbers.push(block.rate.defaults as u32);
-            numbers.push(block.rate.obligors as u32);
-            numbers.push(band(&block.rate));
-        }
+    for index in 0..table.grades.len() {
+        let grade = spoken_for(table, index);
+        let its_own = |block: &&Block| (block.first..=block.last).contains(&grade);
+        let block = blocks.iter().find(its_own);
+        let rate = block.expect("every occupied grade is in a block").rate;
+        numbers.push(rate.defaults as u32);
+        numbers.push(rate.obligors as u32);
+        numbers.push(band(&rate));
     }
     numbers
 }
 
-/// The table whose grades are the blocks, best first.
+/// The table whose grades are the blocks, best first: no grade of it is empty.
 pub fn pooled_scale(table: &Table) -> Table {
     let rows: Vec<(u64, u64)> = blocks(table)
         .iter()

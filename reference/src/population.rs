@@ -12,8 +12,22 @@ pub fn any_table(random: &mut Random) -> Table {
         (2, band_edge_table),
     ]);
     let mut table = maker(random);
+    if random.chance(12) {
+        empty_some(random, &mut table);
+    }
     announce(random, &mut table);
     table
+}
+
+/// Nobody is left in some grades, but somebody in one at least.
+fn empty_some(random: &mut Random, table: &mut Table) {
+    let occupied = random.index(table.grades.len());
+    let percent = random.pick(&[10, 50, 90]);
+    for (index, grade) in table.grades.iter_mut().enumerate() {
+        if index != occupied && random.chance(percent) {
+            (grade.obligors, grade.defaults) = (0, 0);
+        }
+    }
 }
 
 /// Any sizes with any pattern of defaults.
@@ -168,7 +182,14 @@ fn by_rate(one: &Grade, other: &Grade) -> std::cmp::Ordering {
     rate(one).compare(&rate(other))
 }
 
-/// Puts the grades into the order of their default rates.
+/// Puts the occupied grades into the order of their default rates. Empty ones have no rate: they
+/// stay where they are.
 pub fn sort_by_rate(table: &mut Table) {
-    table.grades.sort_by(by_rate);
+    let mut sorted = table.grades.clone();
+    sorted.retain(Grade::is_occupied);
+    sorted.sort_by(by_rate);
+    let places = table.grades.iter_mut().filter(|grade| grade.is_occupied());
+    for (place, grade) in places.zip(sorted) {
+        *place = grade;
+    }
 }

@@ -14,19 +14,21 @@ use crate::table::{Table, MAX_GRADES, MAX_OBLIGORS};
 pub type Scene = (&'static str, fn(&mut Generator));
 
 /// How often each scene is taken, in proportion.
-pub const SCENES: [(u64, Scene); 13] = [
+pub const SCENES: [(u64, Scene); 15] = [
     (40, ("two raters, same obligors", Generator::same_obligors)),
     (8, ("two raters, other obligors", Generator::other_obligors)),
     (14, ("one table, all questions", Generator::one_table)),
-    (27, ("far from the diagonal", Generator::far_from_diagonal)),
+    (34, ("far from the diagonal", Generator::far_from_diagonal)),
     (30, ("damaged book", Generator::damaged_book)),
     (22, ("several faults at once", Generator::several_faults)),
-    (20, ("book cut wrong", Generator::book_cut_wrong)),
-    (13, ("two faults of a table", Generator::two_faults)),
+    (22, ("book cut wrong", Generator::book_cut_wrong)),
+    (18, ("two faults of a table", Generator::two_faults)),
     (2, ("junk for a book", Generator::junk_book)),
     (4, ("wandering calls", Generator::wandering)),
     (5, ("at the limits", Generator::limits)),
-    (30, ("at a band's limit", Generator::at_band_limit)),
+    (34, ("at a band's limit", Generator::at_band_limit)),
+    (12, ("some grades empty", Generator::some_empty)),
+    (12, ("all grades empty, or nearly", Generator::nearly_empty)),
     (5, ("write and load back", Generator::write_and_load)),
 ];
 
@@ -248,7 +250,7 @@ impl Generator {
     }
 
     /// Writes the loaded places and loads a rater of the written book.
-    fn write_and_load(&mut self) {
+    pub(crate) fn write_and_load(&mut self) {
         let length = self.write_length();
         self.emit(Call::Write { length });
         let tables: Vec<Table> = [1, 2]

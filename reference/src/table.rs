@@ -27,6 +27,11 @@ impl Grade {
     pub fn survivors(&self) -> u64 {
         self.obligors - self.defaults
     }
+
+    /// Request R-4 of document 02: a grade may have nobody in it.
+    pub fn is_occupied(&self) -> bool {
+        self.obligors >= 1
+    }
 }
 
 /// The grades of one rater, the best first.
@@ -46,6 +51,12 @@ impl Table {
         Table {
             grades: rows.iter().map(grade).collect(),
         }
+    }
+
+    /// How many grades have somebody in them.
+    pub fn occupied(&self) -> usize {
+        let grades = self.grades.iter();
+        grades.filter(|grade| grade.is_occupied()).count()
     }
 
     /// N

@@ -1,12 +1,13 @@
 //! How often one run exercises which operations, verdicts, kinds of Pietra, rates at the limits of
-//! bands, refusal numbers, books cut wrong, pairs of faults, buffers and scenes.
+//! bands, empty grades, refusal numbers, books cut wrong, pairs of faults, buffers and scenes.
 
 use crate::answer::{verdict_name, Answer};
 use crate::band_scene::{every_edge, Edge, SIDES};
 use crate::compare::plan;
 use crate::cut_scene::Cut;
 use crate::desk::Desk;
-use crate::generate::{Script, WrongLayouts};
+use crate::empty_tally::EmptyTally;
+use crate::generate::{Marks, Script};
 use crate::measures::{heights, Measures};
 use crate::pair_scene::{every_pair, FaultPair, Where};
 use crate::pooling::{band, blocks, Rate};
@@ -28,6 +29,7 @@ pub struct Tally {
     edges: BTreeMap<Edge, usize>,
     /// The other blocks of accepted pools.
     far_rates: BTreeMap<&'static str, usize>,
+    empty: EmptyTally,
     /// For each refusal number, the calls of each operation.
     refusals: BTreeMap<Refusal, BTreeMap<&'static str, usize>>,
     cuts: BTreeMap<Cut, CutLoads>,
@@ -50,13 +52,13 @@ impl Tally {
     pub fn of_run(seed: u64, calls: usize) -> Tally {
         let mut tally = Tally::default();
         for (seed, calls) in plan(seed, calls) {
-            let (script, wrong) = Script::with_layouts(seed, calls);
-            tally.add_script(&script, &wrong);
+            let (script, marks) = Script::with_marks(seed, calls);
+            tally.add_script(&script, &marks);
         }
         tally
     }
 
-    fn add_script(&mut self, script: &Script, wrong: &WrongLayouts) {
+    fn add_script(&mut self, script: &Script, marks: &Marks) {
         self.scripts += 1;
         self.broken_scripts += usize::from(!script.tail.is_empty());
         let mut desk = Desk::fresh();
@@ -67,10 +69,12 @@ impl Tally {
             let answer = desk.call(call);
             self.add_answer(call.name(), &answer);
             self.add_blocks(&desk, call, &answer);
-            if let Some(&cut) = wrong.cuts.get(&index) {
+            let rows = marks.rows.get(&index).copied();
+            self.empty.add(&desk, call, &answer, rows);
+            if let Some(&cut) = marks.cuts.get(&index) {
                 self.add_cut(cut, call, &answer);
             }
-            if let Some(&pair) = wrong.pairs.get(&index) {
+            if let Some(&pair) = marks.pairs.get(&index) {
                 *self.pairs.entry(pair).or_default() += 1;
             }
         }
@@ -106,9 +110,11 @@ impl Tally {
     }
 
     fn add_buffer(&mut self, desk: &Desk, call: &Call) {
+        let mut of_occupied = None;
         let (needed, lent) = match *call {
             Call::Pool { place, length } => {
                 let table = desk.table(place).ok();
+                of_occupied = table.map(|table| 3 * table.occupied());
                 (table.map(|table| 3 * table.grades.len()), length)
             }
             Call::Write { length } => (desk.book_length(), length),
@@ -119,6 +125,7 @@ impl Tally {
         let fit = match needed {
             _ if lent == needed => "exact",
             _ if lent > needed => "longer",
+            _ if of_occupied == Some(lent) => "just enough for the occupied grades",
             _ if lent + 1 == needed => "one too short",
             _ => "shorter still",
         };
@@ -157,6 +164,9 @@ impl Tally {
             self.pietra_table(),
             self.edge_table(),
             two_columns("| blocks near no limit | times |", &self.far_rates),
+            self.empty.run_table(),
+            self.empty.row_table(),
+            self.empty.load_table(),
             self.refusal_table(),
             self.cut_table(),
             self.pair_table(),
@@ -225,14 +235,7 @@ impl Tally {
             .to_string();
         for (cut, CutLoads { by_rater, answers }) in &self.cuts {
             let [first, middle, last] = by_rater;
-            let answers: Vec<String> = answers
-                .iter()
-                .map(|(answer, times)| match answer {
-                    Some(number) => format!("{number}: {times}"),
-                    None => format!("ok: {times}"),
-                })
-                .collect();
-            let answers = answers.join(", ");
+            let answers = answer_counts(answers);
             text += &format!("| {cut} | {first}, {middle}, {last} | {answers} |\n");
         }
         text
@@ -272,6 +275,18 @@ fn two_columns(head: &str, times: &BTreeMap<&'static str, usize>) -> String {
         text += &format!("| {kind} | {times} |\n");
     }
     text
+}
+
+/// How often each refusal number was the answer, or none.
+pub(crate) fn answer_counts(answers: &BTreeMap<Option<Refusal>, usize>) -> String {
+    let counts: Vec<String> = answers
+        .iter()
+        .map(|(answer, times)| match answer {
+            Some(number) => format!("{number}: {times}"),
+            None => format!("ok: {times}"),
+        })
+        .collect();
+    counts.join(", ")
 }
 
 /// What kind of rate this is that no limit is near to.

@@ -261,9 +261,11 @@ fn bytes_behind_a_table_past_the_end() {
     }
     refused(31, &[count(1, 6), Append(4, 1)]);
     refused(31, &[count(2, 5), Append(8, 1)]);
-    // The third table has a further row, without obligors: 9 for its own rater alone.
-    let book = changed(&BOOK, &[count(3, 3), Append(12, 0)]);
-    assert_eq!([1, 2, 3].map(|rater| load(&book, rater)), [0, 0, 9]);
+    // The third table has a further row: a default of nobody is 8 for its own rater alone, and
+    // a grade with nobody in it is none by R-4.
+    let book = changed(&BOOK, &[count(3, 3), Append(12, 0), Put(86, vec![1])]);
+    assert_eq!([1, 2, 3].map(|rater| load(&book, rater)), [0, 0, 8]);
+    refused(0, &[count(3, 3), Append(12, 0)]);
     // The last row is cut away and other bytes follow.
     refused(32, &[Cut(70), Append(11, 0)]);
     refused(33, &[Cut(70), Append(13, 0)]);
@@ -355,11 +357,11 @@ fn a_wrong_number_of_raters_is_31() {
 fn rows_come_after_the_whole_layout() {
     // In the first row of each table: first column, defaults, announced rate.
     let columns = |table: usize| [0, 4, 8].map(|column| STARTS[table - 1] + 4 + column);
-    for table in [1, 3] {
+    for (table, grades) in [(1, 1), (3, 2)] {
         let [first, defaults, announced] = columns(table);
         let faults = [
             (8, vec![Put(defaults, vec![10])]),
-            (9, vec![Put(first, vec![0]), Put(defaults, vec![0])]),
+            (9, vec![Put(first, vec![0; 12 * grades])]),
             (10, vec![Put(announced, vec![0x41, 0x42, 0x0f])]),
             (11, vec![Put(first, vec![0x41, 0x42, 0x0f])]),
         ];
@@ -400,7 +402,8 @@ fn a_book_of_one_rater() {
     }
     refused(33, &[Append(1, 0)]);
     refused(32, &[Put(6, vec![2]), Append(11, 0)]);
-    refused(9, &[Put(6, vec![2]), Append(12, 0)]);
+    refused(0, &[Put(6, vec![2]), Append(12, 0)]);
+    refused(9, &[Put(6, vec![2]), Put(10, vec![0; 12]), Append(12, 0)]);
     refused(33, &[Put(6, vec![2]), Append(13, 0)]);
 }
 

@@ -9,7 +9,7 @@ use reference::spread::{lawful, spread};
 use reference::table::Table;
 use std::cmp::Ordering;
 
-/// A table of few obligors; D and S are at most 8 each and at least 1.
+/// A table of few obligors, some of its grades empty; D and S are at most 8 each and at least 1.
 fn small_table(random: &mut Random, defaults: u64, survivors: u64) -> Table {
     let count = random.between(1, 5) as usize;
     let mut rows = vec![(0, 0); count];
@@ -18,7 +18,6 @@ fn small_table(random: &mut Random, defaults: u64, survivors: u64) -> Table {
         row.0 += 1;
         row.1 += u64::from(person < defaults);
     }
-    rows.retain(|row| row.0 > 0);
     Table::of_rows(&rows)
 }
 
@@ -54,10 +53,10 @@ fn verdicts_agree_with_trying_all_small_prices() {
     assert!(seen.iter().all(|&times| times > 50), "{seen:?}");
 }
 
-/// Adjacent violators, joined until none is left.
+/// Adjacent violators, joined until none is left. Empty grades are passed over.
 fn joined_violators(table: &Table) -> Vec<Rate> {
     let mut rates: Vec<Rate> = Vec::new();
-    for grade in &table.grades {
+    for grade in table.grades.iter().filter(|grade| grade.obligors > 0) {
         let mut last = Rate {
             defaults: grade.defaults,
             obligors: grade.obligors,

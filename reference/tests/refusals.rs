@@ -52,15 +52,17 @@ fn damages_can_meet_in_one_book() {
         let mut random = Random::of_seed(seed);
         let table = any_table(&mut random);
         let mut draft = Draft::around(&mut random, &table);
+        let (mut cut, mut may_be_mended) = (false, false);
         for _ in 0..4 {
-            let (_, damage) = random.pick(&WAYS);
+            let (number, damage) = random.pick(&WAYS);
             damage(&mut random, &mut draft);
+            cut |= number == 32;
+            // Bytes behind a table that was cut may be what it lacks.
+            may_be_mended |= cut && number == 33;
         }
         assert!(draft.bytes.len() <= 65_535, "seed {seed}");
-        assert!(
-            book::read(&draft.bytes, draft.rater).is_err(),
-            "seed {seed}"
-        );
+        let read = book::read(&draft.bytes, draft.rater);
+        assert!(read.is_err() || may_be_mended, "seed {seed}");
     }
 }
 
@@ -151,12 +153,16 @@ fn rows_are_tried_one_after_the_other() {
             &[(0, First, 0), (0, Defaults, 0), (0, Announced, u32::MAX)],
             0
         ),
-        Err(9)
+        Err(10)
     );
     assert_eq!(put(&[(0, Announced, 1_000_001), (1, First, 0)], 0), Err(10));
     assert_eq!(
         put(&[(0, First, 0), (0, Defaults, 0), (1, First, 0)], 0),
-        Err(9)
+        Err(8)
+    );
+    assert_eq!(
+        put(&[(0, First, 0), (0, Defaults, 0)], 0).map(|t| t.grades[0].obligors),
+        Ok(0)
     );
     assert_eq!(
         put(&[(0, First, u32::MAX), (2, Announced, 1_000_001)], 1),

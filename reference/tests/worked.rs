@@ -1,5 +1,5 @@
 //! The worked tables a to k of document 01, and book K; table f and others for Pietra as request
-//! R-1 of document 02 has them.
+//! R-1 of document 02 has them, the last line of the cases as R-4 has it.
 
 use reference::book;
 use reference::cutoff::{cheapest_cost, verdict, Price, Verdict};
@@ -183,7 +183,11 @@ fn k_limits() {
     assert_eq!(load(&rows(&[(1, 0); 40])), Ok(()));
     assert_eq!(load(&rows(&[(1, 0); 41])), Err(6));
     assert_eq!(load(&rows(&[(1, 0)])), Ok(()));
+    // n 0 loads if another grade is occupied.
+    assert_eq!(load(&rows(&[(0, 0), (1, 0)])), Ok(()));
+    assert_eq!(load(&rows(&[(1, 0), (0, 0)])), Ok(()));
     assert_eq!(load(&rows(&[(0, 0)])), Err(9));
+    assert_eq!(load(&rows(&[(0, 0), (0, 0)])), Err(9));
     let book = book::write(&[&table_k()]);
     assert_eq!(Desk::fresh().load(1, 1, &book[..45]), Err(2));
     let mut desk = Desk::fresh();

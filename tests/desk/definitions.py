@@ -1,4 +1,4 @@
-"""Document 01's definitions, computed plainly for the tests that hold answers to them.
+"""Document 01's definitions, computed plainly for the tests that hold answers to them; of document 02, R-1 and R-4.
 
 A grade is its obligors, its defaults and its announced rate in ppm. Everything is exact: whole numbers and fractions.
 """
@@ -50,6 +50,23 @@ class Block(NamedTuple):
 
 
 def pooled(grades: Grades) -> list[Block]:
+    """What pool writes of each grade: the block of an occupied one, and for an empty one what is repeated."""
+    blocks = iter(pooled_occupied([grade for grade in grades if grade[0]]))
+    found = {number: next(blocks) for number, (n, _, _) in enumerate(grades, 1) if n}
+    return [found[repeated or number] for number, repeated in enumerate(repeats(grades), 1)]
+
+
+def repeats(grades: Grades) -> list[int | None]:
+    """For each empty grade the one whose numbers pool repeats, counted from 1. R-4: "the next better occupied grade, or .. the best
+    occupied grade if none is better"."""
+    found: list[int | None] = []
+    for number, (n, _, _) in enumerate(grades, 1):
+        nearest = [*range(number - 1, 0, -1), *range(number + 1, len(grades) + 1)]  # better ones, the next first; then worse ones
+        found.append(None if n else next(other for other in nearest if grades[other - 1][0]))
+    return found
+
+
+def pooled_occupied(grades: Grades) -> list[Block]:
     """The block of each grade: the grades of one monotone rate, which is the largest over starts of the smallest over ends of the mean."""
     count = range(len(grades))
     mean = {(start, end): Fraction(sum(d for _, d, _ in grades[start:end + 1]), sum(n for n, _, _ in grades[start:end + 1]))

@@ -5,7 +5,7 @@ from fractions import Fraction
 from typing import Any, Sequence
 
 from scales import Scale
-from definitions import Grades, brier, cheaper, cheapest, decimal, measures, measures_refusal, pooled, totals
+from definitions import Grades, brier, cheaper, cheapest, decimal, measures, measures_refusal, pooled, repeats, totals
 from test_ranges import expected as ranges_by_definition
 
 
@@ -16,7 +16,7 @@ def fraction_data(numerator: int, denominator: int) -> dict[str, Any]:
 def rater_data(scale: Scale) -> dict[str, Any]:
     obligors, defaults, survivors = totals(scale.grades)
     return {'name': scale.name, 'file': scale.file, 'rater': scale.number, 'counts': scale.counts, 'grades': len(scale.rows),
-            'obligors': obligors, 'survivors': survivors, 'defaults': defaults}
+            'empty_grades': [n for n, _, _ in scale.grades].count(0), 'obligors': obligors, 'survivors': survivors, 'defaults': defaults}
 
 
 def measures_data(grades: Grades) -> dict[str, Any]:
@@ -72,17 +72,39 @@ def compare_data(first: Scale, second: Scale, prices: Sequence[tuple], separatin
 
 # show
 
-def grades_data(scale: Scale) -> list[dict[str, Any]]:
-    labels = scale.labels or [''] * len(scale.rows)
-    return [{'grade': number, 'label': label, 'obligors': n, 'survivors': n - d, 'defaults': d, 'announced_ppm': announced,
-             'block_defaults': block.defaults, 'block_obligors': block.obligors, 'band': block.band}
-            for number, (label, (n, d, announced), block) in enumerate(zip(labels, scale.grades, pooled(scale.grades)), 1)]
+def grades_data(scale: Scale, repeated: bool) -> list[dict[str, Any]]:
+    """The grades. Of an empty one what is repeated for it is there only where that is asked for."""
+    found, labels = [], scale.labels or [''] * len(scale.rows)
+    blocks, sources = pooled(scale.grades), repeats(scale.grades)
+    for at, (n, d, announced) in enumerate(scale.grades):
+        block = (None,) * 3 if n == 0 and not repeated else blocks[at]
+        found.append({'grade': at + 1, 'label': labels[at], 'obligors': n, 'survivors': n - d, 'defaults': d, 'announced_ppm': announced,
+                      'block_defaults': block[0], 'block_obligors': block[1], 'band': block[2],
+                      'repeats': sources[at] if repeated else None})
+    return found
+
+
+def about_empty(grades: Grades, repeated: bool) -> list[str]:
+    """The lines about empty grades: of each run of them one with what it repeats, or one for all that says how to ask for that."""
+    lines, sources = [], repeats(grades)
+    for number in range(1, len(grades) + 1):
+        if grades[number - 1][0] or number > 1 and not grades[number - 2][0]:
+            continue  # no empty grade, or not the first of its run
+        last = number
+        while last < len(grades) and not grades[last][0]:
+            last += 1
+        run = {0: f'Grade {number} is', 1: f'Grades {number} and {last} are'}.get(last - number, f'Grades {number} to {last} are')
+        which = 'the best occupied one, since none is better' if number == 1 else 'the next better occupied one'
+        for_it = 'it' if last == number else 'them'
+        lines.append(f'{run} empty: pool repeats for {for_it} the numbers of grade {sources[number - 1]}, {which}.')
+    unasked = 'An empty grade, with no obligors, has no observed and no pooled rate (-); --repeated shows what pool repeats for it.'
+    return lines if repeated else [unasked][:len(lines)]
 
 
 def line_data(scale: Scale) -> dict[str, Any]:
     """A rater of several. One without rows stands for one that is refused."""
     if not scale.rows:
         return {'number': scale.number, 'name': scale.name, 'rater': None, 'blocks': None, 'measures': None}
-    blocks = len({Fraction(block.defaults, block.obligors) for block in pooled(scale.grades)})
+    blocks = len({Fraction(block.defaults, block.obligors) for block in pooled(scale.grades)})  # of different blocks rates differ
     return {'number': scale.number, 'name': scale.name, 'rater': rater_data(scale), 'blocks': blocks,
             'measures': measures_data(scale.grades)}

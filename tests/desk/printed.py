@@ -7,8 +7,8 @@ import re
 CURVES = ('gini', 'roc', 'cap', 'pietra')
 LABELS = ['Gini', 'ROC area', 'CAP area', 'Pietra', 'at cutoff', 'Brier']
 FRACTION = re.compile(r'(-?\d+\.\d{6}) \((-?\d+)/(\d+)\)')
-SUMMARY = re.compile(r'(.*) \(rater (\d+) of (.*), by (obligors|survivors)\): (\d+) grades?, (\d+) obligors = (\d+) survivors \+ '
-                     r'(\d+) defaults')
+SUMMARY = re.compile(r'(.*) \(rater (\d+) of (.*), by (obligors|survivors)\): (\d+) grades?(?: \((\d+) empty\))?, (\d+) obligors = '
+                     r'(\d+) survivors \+ (\d+) defaults')
 LOWEST, HIGHEST = {'u': 0, 'v': 1}, {'u': 1, 'v': 0}
 
 
@@ -23,8 +23,8 @@ def cells(line: str) -> list[str]:
 
 def summary(line: str) -> dict[str, Any]:
     name, number, file, counts, *totals = SUMMARY.fullmatch(line).groups()
-    return dict(zip(('name', 'file', 'rater', 'counts', 'grades', 'obligors', 'survivors', 'defaults'),
-                    (name, file, int(number), counts, *map(int, totals))))
+    return dict(zip(('name', 'file', 'rater', 'counts', 'grades', 'empty_grades', 'obligors', 'survivors', 'defaults'),
+                    (name, file, int(number), counts, *(int(total or 0) for total in totals))))
 
 
 def fraction(cell: str) -> dict[str, Any] | None:
@@ -97,9 +97,10 @@ def compared(text: str) -> dict[str, Any]:
 def in_full(text: str) -> dict[str, Any]:
     """The figures of one rater. A grade is a list of its cells, with its label where it has one."""
     parts = sections(text)
+    bands = next(at for at, line in enumerate(parts[1]) if line.startswith('Occupied grades with one pooled rate form a block.'))
     spread = re.fullmatch(r'Spread: (\S+) in all, (\S+) within the blocks\.', parts[-1][-1])
-    return {'rater': summary(parts[0][0]), 'heading': cells(parts[1][0]), 'grades': [cells(line) for line in parts[1][1:-2]],
-            'measures': measures(parts[-1][:6], 1)[0], 'about': parts[-1][6:-1],
+    return {'rater': summary(parts[0][0]), 'heading': cells(parts[1][0]), 'grades': [cells(line) for line in parts[1][1:bands]],
+            'about_empty': parts[1][bands + 2:], 'measures': measures(parts[-1][:6], 1)[0], 'about': parts[-1][6:-1],
             'spread': {'total': float(spread[1]), 'residual': float(spread[2])}}
 
 

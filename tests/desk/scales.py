@@ -45,5 +45,11 @@ def named_example(name: str, portfolio_rater: int, counts: str, labels: str) -> 
     return Scale(name, example(f'{name.lower().replace("-", "")}.csv'), 1, counts, rows, labels.split())
 
 
+def part_of_agencies(name: str, file: str, rater: int, first: int, labels: str) -> Scale:
+    """An example in CSV that has a name and names of grades: the grades of a rater of agencies.book from one on."""
+    return Scale(name, example(file), 1, 'obligors', rater_of(example('agencies.book'), rater).grades[first - 1:], labels.split())
+
+
 INHOUSE = named_example('In-house', 1, 'obligors', 'A1 A2 B1 B2 C1 C2 D1 D2')
 AGENCY = named_example('Agency', 3, 'survivors', 'Aa A Baa Ba B Caa')
+FITCH_CCC = part_of_agencies('Fitch from CCC+ down', 'fitch_ccc.csv', 3, 17, 'CCC+ CCC CCC- CC C')

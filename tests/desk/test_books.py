@@ -25,17 +25,17 @@ Tables = List[Tuple[int, Rows]]  # kind and rows of each rater
 LIMITS = (0, 1, 2, 999_999, 1_000_000, 1_000_001, 2 ** 31, 2 ** 32 - 1)
 NO_RATERS = (17, 2 ** 32 - 1, 2 ** 32 + 1, -1)
 BYTES = (0, 1, 2, 3, 16, 17, 40, 41, 128, 255)
-SMALL: Tables = [(0, [(5, 1, 7)]), (1, [(5, 1, 7), (0, 3, 1_000_000)])]
+SMALL: Tables = [(0, [(5, 1, 7)]), (1, [(0, 0, 7), (0, 1, 1_000_000)])]  # an empty grade, and one with a single obligor
 IN_A_BOOK = {2, 3, 4, 6, 7, 8, 9, 10, 11, 31, 32, 33}
 
 
 def sound_rows(source: random.Random, kind: int) -> Rows:
-    """Rows that load accepts, often with the most obligors."""
+    """Rows that load accepts, often with the most obligors, and with empty grades."""
     grades = source.choice((1, 1, 2, 3, 40))
-    share = source.choice((1, 30, 1_000_000 // grades))
+    share, occupied = source.choice((1, 30, 1_000_000 // grades)), source.randrange(grades)
     rows = []
-    for _ in range(grades):
-        obligors = source.choice((share, source.randint(1, share)))
+    for grade in range(grades):
+        obligors = source.choice((share, source.randint(1, share), 0 if grade != occupied else share))
         defaults = source.choice((0, obligors, source.randint(0, obligors)))
         rows.append((obligors - defaults if kind else obligors, defaults, source.choice((0, 1_000_000, source.randint(0, 1_000_000)))))
     return rows
@@ -47,7 +47,8 @@ def rows_at_limits(source: random.Random, kind: int) -> Rows:
     for _ in range(source.randint(1, 3)):
         source.choice(rows)[source.randrange(3)] = source.choice(LIMITS)
     if source.random() < 0.2:
-        source.choice(rows)[:2] = 0, 0
+        for row in rows if source.random() < 0.7 else source.sample(rows, 1):
+            row[:2] = 0, 0
     return [tuple(row) for row in rows]
 
 
@@ -185,17 +186,28 @@ class SameNumbers(unittest.TestCase):
 class WhereItStands(unittest.TestCase):
     def test_every_fault_is_found_at_its_byte(self) -> None:
         rows = [(5, 6, 1_000_001), (0, 0, 0), (1_000_000, 0, 0), (0, 1, 0), (1, 0, 0)]
+        empty = [(0, 0, 1_000_001), (0, 0, 0), (0, 0, 1_000_002)]
         for first_rater in (SMALL[:1], []):
-            book = books.encoded([*first_rater, (0, rows)])
-            at, rater = list(starts([*first_rater, (0, rows)]))[-2] + 4, len(first_rater) + 1
-            self.assertEqual([(each.number, int(re.search(r'byte (\d+) ', each.where)[1])) for each in load_refusals(book, rater)],
-                             [(8, at + 4), (10, at + 8), (9, at + 12), (8, at + 40), (11, at + 24)])
+            book = books.encoded([*first_rater, (0, rows), (1, empty)])
+            *_, at, second, _ = (start + 4 for start in starts([*first_rater, (0, rows), (1, empty)]))
+            rater = len(first_rater) + 1
+            self.assertEqual(self.numbers(book, rater), [(8, at + 4), (10, at + 8), (8, at + 40), (11, at + 24)])
             self.assertIn(f'rater {rater}, grade 1, defaults', load_refusals(book, rater)[0].where)
-            self.assertIn(f'rater {rater}, grade 2, obligors', load_refusals(book, rater)[2].where)
+            self.assertIn(f'rater {rater}, grade 3, obligors', load_refusals(book, rater)[3].where)
+            self.assertEqual(self.numbers(book, rater + 1), [(10, second + 8), (10, second + 32), (9, second)])
+            self.assertIn(f'(rater {rater + 1}, all grades): nobody is in any grade', load_refusals(book, rater + 1)[2].where)
+
+    def numbers(self, book: bytes, rater: int) -> list[tuple[int, int]]:
+        """The number and the byte of each fault."""
+        return [(each.number, int(re.search(r'byte (\d+) ', each.where)[1])) for each in load_refusals(book, rater)]
 
     def test_columns_by_name(self) -> None:
-        refusal, = load_refusals(books.encoded([(1, [(0, 0, 0)])]), 1)
+        refusal, = load_refusals(books.encoded([(1, [(1_000_000, 1, 0)])]), 1)
         self.assertIn('grade 1, survivors', refusal.where)
+
+    def test_defaults_of_nobody_are_8_alone(self) -> None:
+        """Who is told that survivors may be meant is not told beside it that nobody is there."""
+        self.assertEqual(self.numbers(books.encoded([(0, [(0, 0, 0), (0, 1, 0)])]), 1), [(8, 26)])
 
 
 class RoundTrips(unittest.TestCase):

@@ -14,7 +14,7 @@ sys.path.insert(0, os.path.dirname(os.path.abspath(__file__)))
 from running import book_of, content_of, csv_text, example, examples  # noqa: E402
 from converting import BOOK_K, OBLIGORS, Converting  # noqa: E402
 from expected import rater_data  # noqa: E402
-from scales import AGENCY, INHOUSE, Scale, rater_of  # noqa: E402
+from scales import AGENCY, FITCH_CCC, INHOUSE, Scale, rater_of  # noqa: E402
 import printed  # noqa: E402
 
 
@@ -27,8 +27,8 @@ def with_bytes(content: bytes, **changes: int) -> bytes:
 
 
 class Examples(Converting):
-    NAMED = ('agency.csv', 'inhouse.csv')  # with names, which no book holds
-    FAULTY = ('agencies.book', 'refusals.book')  # with tables that load refuses
+    NAMED = ('agency.csv', 'fitch_ccc.csv', 'inhouse.csv')  # with names, which no book holds
+    FAULTY = ('refusals.book',)  # with tables that load refuses
 
     def test_every_book_whose_raters_all_load_has_its_csv(self) -> None:
         self.assertEqual([name[:-len('.csv')] for name in examples('.csv') if name not in self.NAMED],
@@ -44,16 +44,14 @@ class Examples(Converting):
         self.assertEqual(self.packed(*(content_of(scale.file) for scale in (INHOUSE, AGENCY))),
                          book_of([(scale.counts, scale.rows) for scale in (INHOUSE, AGENCY)]))
 
+    def test_a_part_of_agencies_packs_to_its_rows(self) -> None:
+        self.assertEqual(self.packed(content_of(FITCH_CCC.file)), book_of([(FITCH_CCC.counts, FITCH_CCC.rows)]))
+
     def test_faulty_ones_name_every_fault(self) -> None:
-        """agencies.book: three tables of 21 grades, with nobody in grades 17 and 21 of the first and 17 of the third."""
-        lines = self.not_taken('unpack', content_of(example('agencies.book')), 9)
-        start, table = 4 + 2 * 3, 4 + 12 * 21
-        for line, (rater, grade) in zip(lines, ((1, 17), (1, 21), (3, 17))):
-            byte = start + (rater - 1) * table + 4 + 12 * (grade - 1)
-            self.assertIn(f'byte {byte} (rater {rater}, grade {grade}, obligors)', line)
-        self.assertEqual(len(lines), 3)
         lines = self.not_taken('unpack', content_of(example('refusals.book')), 9)
         self.assertEqual([line.split()[2] for line in lines], ['9:', '8:', '10:', '11:'])
+        for rater, line in enumerate(lines, 5):
+            self.assertIn(f'(rater {rater}, ', line)
 
     def test_book_k(self) -> None:
         self.assertEqual(content_of(example('k.book')), BOOK_K)
@@ -111,12 +109,12 @@ class Books(Converting):
         self.not_taken('unpack', with_bytes(self.TWO, b39=5), 7, 'byte 39: rater 2 has 5 here')
 
     def test_rows_of_every_rater(self) -> None:
-        def refused(row: tuple, number: int, place: str, counts: str = 'obligors') -> None:
+        def refused(row: tuple, number: int, place: str, counts: str = 'obligors', first: tuple = (5, 2, 0)) -> None:
             good = ('obligors', [(5, 2, 0)])
-            self.not_taken('unpack', book_of([good, good, (counts, [(5, 2, 0), row])]), number, place)
+            self.not_taken('unpack', book_of([good, good, (counts, [first, row])]), number, place)
         refused((5, 6, 0), 8, 'byte 62 (rater 3, grade 2, defaults)')
-        refused((0, 0, 0), 9, 'byte 58 (rater 3, grade 2, obligors)')
-        refused((0, 0, 0), 9, 'byte 58 (rater 3, grade 2, survivors)', 'survivors')
+        for counts in ('obligors', 'survivors'):
+            refused((0, 0, 0), 9, 'byte 46 (rater 3, all grades): nobody is in any grade', counts, (0, 0, 0))
         refused((5, 0, 1000001), 10, 'byte 66 (rater 3, grade 2, announced)')
         refused((999996, 0, 0), 11, 'byte 58 (rater 3, grade 2, obligors)')
         refused((999993, 1, 0), 11, 'byte 58 (rater 3, grade 2, survivors)', 'survivors')
@@ -129,17 +127,19 @@ class Books(Converting):
         self.not_taken('unpack', with_bytes(self.TWO, b9=2, b6=0), 7)
         self.not_taken('unpack', with_bytes(self.TWO, b16=200, b37=2), 7)
         self.not_taken('unpack', book_of([('obligors', [(0, 1, 1000001)])]), 8)
-        self.not_taken('unpack', book_of([('obligors', [(0, 0, 1000001)])]), 9)
+        self.not_taken('unpack', book_of([('obligors', [(0, 0, 1000001)])]), 10)
+        self.not_taken('unpack', book_of([('obligors', [(0, 0, 0), (0, 1, 0)])]), 8)
+        self.not_taken('unpack', book_of([('obligors', [(0, 0, 0)]), ('obligors', [(1, 2, 0)])]), 9)
         self.not_taken('unpack', book_of([('obligors', [(2000000, 0, 0), (1, 0, 1000001)])]), 10)
         self.not_taken('unpack', book_of([('obligors', [(2000000, 0, 0)]), ('obligors', [(1, 2, 0)])]), 11)
 
 
 class AtRandom(Converting):
     def rows(self, source: random.Random) -> list[tuple]:
-        """Rows that either kind accepts: the first column is at least the defaults, and all add up to at most 1,000,000."""
+        """Rows that either kind accepts: the first column is at least the defaults, and all add up to at most 1,000,000. Some are empty."""
         grades = source.choice((1, 2, 5, 40))
-        largest = source.choice((1, 9, 300, 500_000 // grades))
-        firsts = [source.randint(1, largest) for _ in range(grades)]
+        largest, occupied, least = source.choice((1, 9, 300, 500_000 // grades)), source.randrange(grades), source.choice((0, 1))
+        firsts = [source.randint(1 if grade == occupied else least, largest) for grade in range(grades)]
         return [(first, source.randint(0, first), source.choice((0, 1_000_000, source.randint(0, 1_000_000)))) for first in firsts]
 
     def test_round_trips(self) -> None:

@@ -12,7 +12,7 @@ import unittest
 
 sys.dont_write_bytecode = True
 sys.path.insert(0, os.path.dirname(os.path.abspath(__file__)))
-from running import book_of  # noqa: E402
+from running import book_of, csv_text  # noqa: E402
 from converting import BOOK_K, OBLIGORS, SURVIVORS, Converting  # noqa: E402
 
 
@@ -93,9 +93,14 @@ class Numbers(Converting):
         self.not_taken('pack', OBLIGORS + '3,3,0\n3,4,0\n', 8, 'line 3, column 2 (defaults): 4 defaults are above 3 obligors', 'survivors')
         self.assertEqual(self.packed(SURVIVORS + '3,4,0\n'), book_of([('survivors', [(3, 4, 0)])]))
 
-    def test_9_nobody(self) -> None:
-        self.not_taken('pack', OBLIGORS + '1,0,0\n0,0,0\n', 9, 'line 3, column 1 (obligors)')
-        self.not_taken('pack', SURVIVORS + '1,0,0\n0,0,0\n', 9, 'line 3, column 1 (survivors)')
+    def test_9_all_grades_empty(self) -> None:
+        for header, counts in ((OBLIGORS, 'obligors'), (SURVIVORS, 'survivors')):
+            for rows in ('0,0,0\n', '0,0,0\n' * 40):
+                line, = self.not_taken('pack', header + rows, 9)
+                self.assertTrue(line.endswith('in, line 1: nobody is in any grade; at least one has to have an obligor'), line)
+                self.not_taken('pack', f'{header}1,0,0\n\n{header}{rows}', 9, 'line 4: nobody')
+            for rows in ([(1, 0, 0), (0, 0, 0)], [(0, 0, 0), (1, 0, 0)], [(0, 0, 0)] * 39 + [(1, 1, 0)]):
+                self.assertEqual(self.packed(csv_text([(counts, rows)])), book_of([(counts, rows)]))
         self.assertEqual(self.packed(SURVIVORS + '0,1,0\n'), book_of([('survivors', [(0, 1, 0)])]))
 
     def test_10_announced(self) -> None:
@@ -116,8 +121,10 @@ class Numbers(Converting):
 
     def test_the_order_is_that_of_load(self) -> None:
         self.not_taken('pack', OBLIGORS + '0,1,1000001\n', 8)
-        self.not_taken('pack', OBLIGORS + '0,0,1000001\n', 9)
-        self.not_taken('pack', OBLIGORS + '2000000,0,0\n0,0,0\n', 9)
+        self.not_taken('pack', OBLIGORS + '0,0,1000001\n', 10)
+        self.not_taken('pack', OBLIGORS + '0,0,0\n0,1,0\n', 8)
+        self.not_taken('pack', OBLIGORS + '0,0,0\n\n' + OBLIGORS + '1,2,0\n', 9)
+        self.not_taken('pack', OBLIGORS + '2000000,0,0\n0,0,0\n', 11)
         self.not_taken('pack', OBLIGORS + '1,0,1000001\n1,2,0\n', 10)
         self.not_taken('pack', OBLIGORS + '2000000,0,0\n\n' + OBLIGORS + '1,2,0\n', 11)
         self.not_taken('pack', (OBLIGORS + '\n') * 17, 3)

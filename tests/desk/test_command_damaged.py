@@ -28,8 +28,9 @@ LARGE = (0, 1, 999_999, 1_000_000, 1_000_001, 2 ** 31, 2 ** 32 - 1)  # and numbe
 
 
 def rows_of(source: random.Random) -> list[tuple]:
-    """Rows that either kind accepts: the first column is at least the defaults."""
-    sizes = [source.randint(1, source.choice((2, 300, 12_000))) for _ in range(source.choice((1, 2, 2, 3, 5, 40)))]
+    """Rows that either kind accepts: the first column is at least the defaults. Grades may be empty, save the last."""
+    sizes = [source.randint(source.choice((0, 1)), source.choice((2, 300, 12_000))) for _ in range(source.choice((0, 1, 1, 2, 4, 39)))]
+    sizes.append(source.randint(1, source.choice((2, 300, 12_000))))
     return [(n, source.randint(0, n), source.randint(0, 1_000_000)) for n in sizes]
 
 

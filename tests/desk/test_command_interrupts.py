@@ -146,7 +146,7 @@ class EveryLine(Case):
         self.see_every_line(['unpack', example('k.book'), '-o', self.path('k.csv')], 0)
 
     def test_of_a_refusal(self) -> None:
-        self.see_every_line(['unpack', example('agencies.book'), '-o', self.path('k.csv')], 1)
+        self.see_every_line(['unpack', example('refusals.book'), '-o', self.path('k.csv')], 1)
 
     def test_of_wrong_usage_and_files_that_are_not_there(self) -> None:
         self.see_every_line(['show'], 2)

@@ -37,10 +37,10 @@ class Answers(Case):
                   ('compare', example('refusals.book'), '1', '4'), ('compare', swapped, swapped), ('compare', wrong_column),
                   ('compare', none, none)]
         asked += [('show', book) for book in books] + [('show', example('refusals.book'), str(number)) for number in (1, 2, 3, 5)]
-        asked += [('show', swapped), ('show', total), ('show', example('inhouse.csv')), ('show', none), ('unpack', example('k.book')),
-                  ('unpack', books[0]), ('unpack', example('portfolio.book'), '-o', output), ('pack', swapped, '-o', output),
-                  ('pack', none, '-o', output),
-                  ('refusals',), ('refusals', '9')]
+        asked += [('show', example('agencies.book'), '1'), ('show', example('agencies.book'), '1', '--repeated'),
+                  ('show', swapped), ('show', total), ('show', example('inhouse.csv')), ('show', none), ('unpack', example('k.book')),
+                  ('unpack', example('refusals.book')), ('unpack', example('portfolio.book'), '-o', output),
+                  ('pack', swapped, '-o', output), ('pack', none, '-o', output), ('refusals',), ('refusals', '9')]
         return [ask(*words, '--json') for words in asked] + self.of_products()
 
     def of_products(self) -> list[Ran]:

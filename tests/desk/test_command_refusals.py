@@ -27,7 +27,7 @@ CUT_WRONG = {
     'start': (31, 'byte 6: the table of rater 2 is said to start at byte 8; expected byte 36, where the table of rater 1 ends'),
     'end': (32, 'byte 36: the table of rater 2 starts here and its rows end at byte 64; the book ends at byte 56, bytes missing: 8'),
     'leftover': (33, 'byte 64: the table of rater 2, the last, ends here; bytes that follow it: 16, expected none')}
-ROWS = {8: (1, 2, 0), 9: (0, 0, 0), 10: (1, 0, 1_000_001), 11: (1_000_001, 0, 0)}
+ROWS = {8: [(5, 1, 0), (1, 2, 0)], 9: [(0, 0, 0), (0, 0, 0)], 10: [(5, 1, 0), (1, 0, 1_000_001)], 11: [(5, 1, 0), (1_000_001, 0, 0)]}
 FROM_CSV = {3: '\n', 6: OBLIGORS}
 TOGETHER = {23: ([(2, 0, 0)], [(2, 1, 0)]), 24: ([(2, 1, 0)], [(2, 2, 0)]), 25: ([(2, 1, 0)], [(3, 1, 0)])}
 
@@ -62,8 +62,8 @@ class Numbers(Converting):
             self.seen(4, 'compare', example('k.book'), example('k.csv'), word, '1')
 
     def test_of_rows(self) -> None:
-        for number, row in ROWS.items():
-            tables = [('obligors', [(5, 1, 0), row])]
+        for number, rows in ROWS.items():
+            tables = [('obligors', rows)]
             book, text = self.put('a.book', book_of(tables)), self.put('a.csv', csv_text(tables))
             for words in (('show', book), ('compare', book, book), ('unpack', book), ('show', text), ('compare', text, book),
                           ('pack', text, '-o', self.path('out'))):

@@ -89,17 +89,20 @@ class Program(Case):
     """The program itself, held to the definitions."""
 
     def test_examples(self) -> None:
-        refused = {'agencies.book': 9}
         for name in examples('.book'):
-            book = content_of(example(name))
-            expected = f'refused {refused[name]}' if name in refused else lines_of(table(book, 1))
-            self.assertEqual(report(example(name), PROGRAM).text, expected)
+            self.assertEqual(report(example(name), PROGRAM).text, lines_of(table(content_of(example(name)), 1)))
+
+    def test_what_pool_repeats_is_printed(self) -> None:
+        rows = [(0, 0, 0), (5, 1, 0), (0, 0, 0), (5, 2, 0), (0, 0, 0)]
+        self.assertEqual(report(self.put('a.book', book_of([('obligors', rows)])), PROGRAM).text,
+                         '1 1 5 11\n2 1 5 11\n3 1 5 11\n4 2 5 12\n5 2 5 12\ngini 5 21')
 
     def test_tables_at_random(self) -> None:
         source = random.Random(1)
         for number in range(60):
             most = source.choice((1, 5, 20_000))
-            sizes = [source.randint(1, most) for _ in range(source.choice((1, 3, 8, 40)))]
+            sizes = [source.randint(source.choice((0, 1)), most) for _ in range(source.choice((0, 2, 7, 39)))]
+            sizes.insert(source.randint(0, len(sizes)), source.randint(1, most))  # at least one grade is occupied
             grades = [(n, source.choice((0, n, source.randint(0, n))) if number % 3 else 0, 0) for n in sizes]
             counts = source.choice(('obligors', 'survivors'))
             outcome = report(self.put('a.book', book_of([(counts, by(counts, grades))])), PROGRAM)
@@ -110,7 +113,8 @@ class Program(Case):
         book = content_of(example('k.book'))
         for content, number in ((b'', 2), (book[:-1], 2), (b'\0' + book[1:], 3), (book[:4] + b'\7' + book[5:], 31),
                                 (book[:6] + b'\0' + book[7:], 6), (book[:7] + b'\2' + book[8:], 7), (bytes(8192), 2), (bytes(8193), 2),
-                                (bytes(1 << 21), 2), (book[:2] + b'\x2d' + book[3:-1], 32), (book[:2] + b'\x2f' + book[3:] + b'\0', 33)):
+                                (bytes(1 << 21), 2), (book[:2] + b'\x2d' + book[3:-1], 32), (book[:2] + b'\x2f' + book[3:] + b'\0', 33),
+                                (book_of([('obligors', [(0, 0, 0)] * 3)]), 9), (book_of([('survivors', [(0, 0, 0)] * 3)]), 9)):
             outcome = report(self.put('a.book', content), PROGRAM)
             self.assertEqual((outcome.text, outcome.data['grades'], outcome.data['gini']), (f'refused {number}', [], None))
             self.assertEqual([each.number for each in outcome.refusals], [number])

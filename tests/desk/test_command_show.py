@@ -17,8 +17,8 @@ sys.path.insert(0, os.path.dirname(os.path.abspath(__file__)))
 from running import EXAMPLES, Case, ask, book_of, content_of, csv_text, example, examples, run  # noqa: E402
 from books import described  # noqa: E402
 from definitions import decimal, measures_refusal, spread  # noqa: E402
-from expected import about_measures, about_sign, grades_data, line_data, measures_data, rater_data  # noqa: E402
-from scales import AGENCY, INHOUSE, Scale, by, kinds_in, rater_of  # noqa: E402
+from expected import about_empty, about_measures, about_sign, grades_data, line_data, measures_data, rater_data  # noqa: E402
+from scales import AGENCY, FITCH_CCC, INHOUSE, Scale, by, kinds_in, rater_of  # noqa: E402
 import printed  # noqa: E402
 
 GRADES_HEADING = ['grade', 'obligors', 'survivors', 'defaults', 'observed', 'pooled', 'announced', 'band']
@@ -27,8 +27,8 @@ GLANCE_HEADING = ['rater', 'name', 'grades', 'obligors', 'survivors', 'defaults'
 MEANINGS = {23: 'no defaults', 24: 'no survivors'}
 
 
-def percent(numerator: int, denominator: int) -> str:
-    return f'{decimal(Fraction(100 * numerator, denominator), 4)}%'
+def percent(numerator: int | None, denominator: int | None) -> str:
+    return f'{decimal(Fraction(100 * numerator, denominator), 4)}%' if denominator else '-'
 
 
 def grade_cells(grade: dict) -> list[str]:
@@ -36,7 +36,7 @@ def grade_cells(grade: dict) -> list[str]:
     rates = [percent(grade['defaults'], grade['obligors']), percent(grade['block_defaults'], grade['block_obligors']),
              percent(grade['announced_ppm'], 1_000_000)]
     counts = [str(grade[key]) for key in ('obligors', 'survivors', 'defaults')]
-    return [str(grade['grade']), *filter(None, [grade['label']]), *counts, *rates, str(grade['band'])]
+    return [str(grade['grade']), *filter(None, [grade['label']]), *counts, *rates, '-' if grade['band'] is None else str(grade['band'])]
 
 
 def glance_cells(line: dict, refusal: int | None) -> list[str]:
@@ -45,6 +45,7 @@ def glance_cells(line: dict, refusal: int | None) -> list[str]:
     if rater is None:
         return start + [f'refused {refusal}']
     counts = [str(rater[key]) for key in ('grades', 'obligors', 'survivors', 'defaults')]
+    counts[0] += f' ({rater["empty_grades"]} empty)' if rater['empty_grades'] else ''
     curves = [line['measures'][name] for name in ('gini', 'roc', 'cap', 'pietra')]
     return [*start, *counts, percent(rater['defaults'], rater['obligors']), str(line['blocks']),
             *(curve['decimal'] if curve else f'refused {refusal}' for curve in curves), line['measures']['brier']['decimal']]
@@ -52,17 +53,22 @@ def glance_cells(line: dict, refusal: int | None) -> list[str]:
 
 class Showing(Case):
     def shown(self, scale: Scale, *words: str) -> dict:
-        """What is answered of one rater, seen to be what the definitions say, as JSON and as text."""
+        """What is answered of one rater, seen to be what the definitions say, as JSON and as text, with and without what is repeated."""
+        self.shown_so(scale, True, *words, '--repeated')
+        return self.shown_so(scale, False, *words)
+
+    def shown_so(self, scale: Scale, repeated: bool, *words: str) -> dict:
         refusal = measures_refusal(scale.grades)
         as_data, as_text = (ask('show', scale.file, *words, *more) for more in (['--json'], []))
         self.assertEqual((as_data.status, as_text.status), (1 if refusal else 0,) * 2, as_text.err)
         data, text = as_data.data(), printed.in_full(as_text.out)
-        grades = grades_data(scale)
+        grades = grades_data(scale, repeated)
         self.assertEqual(data, {'command': 'show', 'rater': rater_data(scale), 'grades': grades, 'measures': measures_data(scale.grades),
                                 'spread': data['spread'], 'refusals': data['refusals'], 'questions': data['questions']})
         self.assertEqual([each['number'] for each in data['refusals']], [refusal] if refusal else [])
         self.assertEqual(text, {'rater': data['rater'], 'heading': GRADES_HEADING, 'grades': [grade_cells(grade) for grade in grades],
-                                'measures': data['measures'], 'about': about_measures(data['measures']), 'spread': data['spread']})
+                                'about_empty': about_empty(scale.grades, repeated), 'measures': data['measures'],
+                                'about': about_measures(data['measures']), 'spread': data['spread']})
         self.see_spread(scale, data['spread'])
         if refusal:
             self.assertIn(f'refused {refusal}: {MEANINGS[refusal]}; the measures of {scale.name}', as_text.err)
@@ -83,7 +89,7 @@ class Examples(Showing):
             path = example(name)
             raters = len(kinds_in(content_of(path)))
             for number in range(1, raters + 1):
-                if name == 'refusals.book' and number > 4 or name == 'agencies.book' and number != 2:
+                if name == 'refusals.book' and number > 4:
                     continue
                 scale = rater_of(path, number)
                 self.shown(scale._replace(name=name[:-len('.book')]) if raters == 1 else scale, str(number))
@@ -91,7 +97,7 @@ class Examples(Showing):
         self.assertGreater(seen, 10)
 
     def test_names_of_grades(self) -> None:
-        for scale in (INHOUSE, AGENCY):
+        for scale in (INHOUSE, AGENCY, FITCH_CCC):
             self.shown(scale)
             self.shown(scale, '1')
             self.shown(scale, scale.name)
@@ -139,6 +145,10 @@ class AllRaters(Showing):
         path = example('portfolio.book')
         self.glanced(path, [rater_of(path, number) for number in range(1, 5)], [None] * 4)
 
+    def test_all_agencies(self) -> None:
+        path = example('agencies.book')
+        self.glanced(path, [rater_of(path, number) for number in range(1, 4)], [None] * 3)
+
     def test_refused_ones_among_them(self) -> None:
         path = example('refusals.book')
         rows = [rows for _, rows in described(os.path.join(EXAMPLES, 'books.txt'))['refusals.book'].tables]
@@ -147,9 +157,9 @@ class AllRaters(Showing):
         self.glanced(path, scales, refusals)
 
     def test_a_rater_that_is_refused_is_not_shown(self) -> None:
-        for number, refusal in ((5, 9), (6, 8), (7, 10), (8, 11)):
+        for number, refusal, place in ((5, 9, 'all grades'), (6, 8, 'grade 2, '), (7, 10, 'grade 2, '), (8, 11, 'grade 2, ')):
             line, = self.refused(refusal, 'show', example('refusals.book'), str(number))
-            self.assertRegex(line, rf'byte \d+ \(rater {number}, grade 2, ')
+            self.assertRegex(line, rf'byte \d+ \(rater {number}, {place}')
 
     def test_one_that_is_upside_down_among_them(self) -> None:
         tables = [('obligors', rows) for rows in ([(2, 0, 0), (2, 2, 0)], [(2, 2, 0), (2, 0, 0)], [(2, 0, 0)])]
@@ -175,27 +185,30 @@ class AllRaters(Showing):
 
 class AtRandom(Showing):
     def rows(self, source: random.Random) -> tuple[str, list]:
-        """A table that loads, of either kind; some have no defaults or no survivors, or are as large as can be."""
+        """A table that loads, of either kind; some have no defaults or no survivors, empty grades, or are as large as can be."""
         grades = source.choice((1, 2, 3, 7, 7, 15, 40))
         largest = source.choice((1, 3, 50, 1_000_000 // grades))
-        few = source.choice((0, 1, 1, 1, 2))
+        few, share, occupied = source.choice((0, 1, 1, 1, 2)), source.choice((0, 0, 0.2, 0.8)), source.randrange(grades)
         rows = []
-        for _ in range(grades):
-            obligors = source.randint(1, largest)
+        for grade in range(grades):
+            obligors = 0 if source.random() < share and grade != occupied else source.randint(1, largest)
             defaults = 0 if few == 0 else obligors if few == 2 else source.randint(0, obligors)
             rows.append((obligors, defaults, source.choice((0, 1_000_000, source.randint(0, 1_000_000)))))
         counts = source.choice(('obligors', 'survivors'))
         return counts, by(counts, rows)
 
     def test_three_hundred_tables(self) -> None:
-        source, refusals = random.Random(2), Counter()
+        source, refusals, empty = random.Random(2), Counter(), Counter()
         for _ in range(300):
             counts, rows = self.rows(source)
             path = self.put('a.book', book_of([(counts, rows)]))
             scale = Scale('a', path, 1, counts, rows)
             self.shown(scale)
             refusals[measures_refusal(scale.grades)] += 1
+            occupied = [n > 0 for n, _, _ in scale.grades]
+            empty.update(top=not occupied[0], bottom=not occupied[-1], some=not all(occupied), none=all(occupied))
         self.assertTrue(all(refusals[number] >= 20 for number in (None, 23, 24)), refusals)
+        self.assertTrue(min(empty.values()) >= 30, empty)
 
     def test_rates_midway_between_two_decimals(self) -> None:
         """Of 128 obligors each is 0.78125%, of which four places are shown."""

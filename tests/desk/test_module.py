@@ -118,11 +118,16 @@ class WorkedTables(unittest.TestCase):
     def test_k_limits(self) -> None:
         """Of the library, which is asked with a book, and of Table."""
         for scale, number in (([(1_000_000, 1)], None), ([(1_000_001, 1)], 11), ([(1, 0)] * 40, None), ([(1, 0)] * 41, 6), ([(1, 0)], None),
-                              ([(0, 0)], 9)):
+                              ([(0, 0)], 9), ([(0, 0), (1, 0)], None), ([(0, 0)] * 39 + [(1, 1)], None), ([(0, 0)] * 40, 9),
+                              ([(0, 0)] * 41, 6)):
             for make in (lambda: Desk().load(1, encoded([(0, [(n, d, 0) for n, d in scale])])), lambda: table_of(scale)):
                 with self.subTest(scale=scale[:1], grades=len(scale)):
                     self.assertEqual(self.number(make), number)
         self.assertEqual(self.number(lambda: Desk().load(1, read('examples', 'k.book')[:45])), 2)
+
+    def test_r4_an_empty_grade_repeats_a_block(self) -> None:
+        self.assertEqual(blocks([(0, 0), (10, 2), (0, 0), (10, 1), (20, 4), (0, 0)]), [(3, 20)] * 4 + [(4, 20)] * 2)
+        self.assertEqual(blocks([(5, 0), (0, 0), (5, 5)]), [(0, 5), (0, 5), (5, 5)])
 
     def test_k_prices(self) -> None:
         desk = Desk()

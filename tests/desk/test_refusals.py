@@ -171,14 +171,17 @@ class Loads(Case):
         for obligors, defaults in ((5, 6), (0, 1), (5, 2 ** 32 - 1), (1_000_001, 1_000_002)):
             self.see(8, put(PAIR, (12, 'I', obligors), (16, 'I', defaults), (20, 'I', 1_000_001)), 1, 'byte 16 ')
 
-    def test_9_no_obligors(self) -> None:
-        self.see(9, put(PAIR, (12, 'I', 0), (16, 'I', 0), (20, 'I', 1_000_001)), 1, 'byte 12 ')
-        self.see(9, put(PAIR, (40, 'I', 0), (44, 'I', 0), (28, 'I', 2_000_000)), 2, 'byte 40 ')
+    def test_9_all_grades_empty(self) -> None:
+        """After all rows. No table has this fault and 11, before which it stands."""
+        self.see(9, put(PAIR, (12, 'I', 0), (16, 'I', 0)), 1, 'byte 12 (rater 1, all grades)')
+        self.see(9, put(PAIR, *((at, 'I', 0) for at in (28, 32, 40, 44))), 2, 'byte 28 (rater 2, all grades)')
 
     def test_10_announced(self) -> None:
         for announced in (1_000_001, 2 ** 32 - 1):
             self.see(10, put(PAIR, (12, 'I', 1_000_001), (20, 'I', announced)), 1, 'byte 20 ')
-            self.see(10, put(PAIR, (36, 'I', announced), (40, 'I', 0), (44, 'I', 0)), 2, 'byte 36 ')  # row by row
+            self.see(10, put(PAIR, (12, 'I', 0), (16, 'I', 0), (20, 'I', announced)), 1, 'byte 20 ')  # before 9
+            self.see(10, put(PAIR, *((at, 'I', 0) for at in (28, 32, 40, 44)), (48, 'I', announced)), 2, 'byte 48 ')
+            self.see(10, encoded([(0, [(5, 1, announced), (5, 6, 0)])]), 1, 'byte 18 ')  # row by row
 
     def test_11_obligors(self) -> None:
         self.see(11, put(PAIR, (12, 'I', 1_000_001)), 1, 'byte 12 ')
@@ -186,9 +189,16 @@ class Loads(Case):
         for first, defaults in ((2 ** 32 - 1, 1), (2 ** 32 - 1, 2 ** 32 - 1), (2 ** 31, 2 ** 31), (1, 2 ** 32 - 1)):  # sums beyond 4 bytes
             self.see(11, put(PAIR, (28, 'I', first), (32, 'I', defaults)), 2, 'byte 28 ')
 
+    def test_a_grade_may_be_empty(self) -> None:
+        for at, grades in ((28, [0, 6]), (40, [6, 0])):
+            for place in (1, 2):
+                desk = WatchedDesk()
+                desk.load(place, put(PAIR, (at, 'I', 0), (at + 4, 'I', 0)), 2)
+                self.assertEqual([grade.obligors for grade in desk.table(place).grades], grades)
+
     def test_rows_of_the_other_rater_are_not_looked_at(self) -> None:
         desk = WatchedDesk()
-        desk.load(1, put(PAIR, (28, 'I', 0), (32, 'I', 0)), 1)
+        desk.load(1, put(PAIR, *((at, 'I', 0) for at in (28, 32, 40, 44))), 1)
         desk.load(2, put(PAIR, (16, 'I', 6)), 2)
         self.assertEqual([grade.obligors for grade in desk.table(1).grades + desk.table(2).grades], [5, 6, 6])
 

@@ -158,9 +158,10 @@ class Refusals(unittest.TestCase):
     def test_rows(self) -> None:
         self.refused(8, 'grade 2: 3 defaults are above 2 obligors', obligors=[1, 2], defaults=[0, 3], announced=[0, 1_000_001])
         self.refused(8, 'grade 1: ', obligors=[0], defaults=[1], announced=[0])
-        self.refused(9, 'grade 2: ', obligors=[1, 0], defaults=[0, 0], announced=[0, 1_000_001])
-        self.refused(9, 'grade 1: ', survivors=[0], defaults=[0], announced=[0])
-        self.refused(10, 'grade 1: ', obligors=[1, 0], defaults=[1, 0], announced=[1_000_001, 0])
+        self.refused(10, 'grade 1: ', obligors=[1, 2], defaults=[1, 3], announced=[1_000_001, 0])
+        self.refused(10, 'grade 2: ', obligors=[0, 0], defaults=[0, 0], announced=[0, 1_000_001])
+        self.refused(9, 'nobody is in any grade', obligors=[0, 0], defaults=[0, 0], announced=[0, 1_000_000])
+        self.refused(9, 'nobody is in any grade', survivors=[0], defaults=[0], announced=[0])
         self.refused(11, 'grade 2: ', obligors=[500_000, 500_001, 1], defaults=[0, 0, 0], announced=[0, 0, 0])
 
     def test_numbers_beyond_32_bits_do_not_wrap(self) -> None:
@@ -196,6 +197,27 @@ class Tables(unittest.TestCase):
             self.assertEqual([grade.survivors for grade in table.grades], [9, 16])
             self.assertEqual([grade.rate for grade in table.grades], [Fraction(1, 10), Fraction(1, 5)])
         self.assertEqual((self.by_obligors.counts, self.by_survivors.counts), ('obligors', 'survivors'))
+
+    def test_empty_grades(self) -> None:
+        for first in ('obligors', 'survivors'):
+            table = Table(**{first: [0, 3, 0]}, defaults=[0, 0, 0], announced=[1, 2, 3])
+            self.assertEqual(table.grades, (Grade(0, 0, 1), Grade(3, 0, 2), Grade(0, 0, 3)))
+            self.assertEqual([(grade.survivors, grade.rate) for grade in table.grades], [(0, None), (3, 0), (0, None)])
+            self.assertEqual((table.obligors, table.survivors, table.defaults), (3, 3, 0))
+            self.assertEqual(repr(table), 'Table: 3 grades, 3 obligors = 3 survivors + 0 defaults')
+        self.assertIsNone(Grade(0, 0, 1_000_000).rate)
+
+    def test_a_default_alone_is_no_empty_grade(self) -> None:
+        self.assertEqual(Table(survivors=[0, 0], defaults=[0, 1], announced=[0, 0]).repeats, (2, None))
+
+    def test_whose_numbers_are_repeated(self) -> None:
+        for obligors, repeats in (([4], (None,)), ([1, 1, 1], (None,) * 3), ([0, 4], (2, None)), ([4, 0], (None, 1)),
+                                  ([0, 0, 4, 0, 0], (3, 3, None, 3, 3)), ([1, 0, 0, 1, 0], (None, 1, 1, None, 4)),
+                                  ([0, 1, 0, 2, 0, 3], (2, None, 2, None, 4, None)), ([0] * 39 + [1], (40,) * 39 + (None,)),
+                                  ([1] + [0] * 39, (None,) + (1,) * 39)):
+            zeros = [0] * len(obligors)
+            self.assertEqual(Table(obligors=obligors, defaults=zeros, announced=zeros).repeats, repeats)
+            self.assertEqual(Table(survivors=zeros, defaults=obligors, announced=zeros).repeats, repeats)
 
     def test_equality_is_that_of_the_grades(self) -> None:
         self.assertEqual(self.by_obligors, self.by_survivors)

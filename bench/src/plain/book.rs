@@ -68,14 +68,14 @@ fn read_rows(table: &[u8], place: &mut Place) -> Result<(), Refusal> {
         if n < d {
             return Err(8);
         }
-        if n == 0 {
-            return Err(9);
-        }
         if p > MILLION {
             return Err(10);
         }
         total += u64::from(n);
         (*obligors, *defaults, *announced) = (n, d, p);
+    }
+    if total == 0 {
+        return Err(9);
     }
     if total > MILLION.into() {
         return Err(11);

@@ -53,26 +53,39 @@ impl Blocks {
         self.defaults[at] = block.defaults;
     }
 
-    /// From the worst grade to the best, each takes in the blocks after it for as long as its rate is not below theirs.
+    /// Puts a block before `count` others: it takes in those after it for as long as its rate is not below theirs. Answers how many there
+    /// are then.
+    fn push(&mut self, mut block: Block, mut count: usize) -> usize {
+        while count > 0 {
+            let next = self.get(count - 1);
+            if block.is_below(&next) {
+                break;
+            }
+            block = block.joined(&next);
+            count -= 1;
+        }
+        self.set(count, &block);
+        count + 1
+    }
+
+    /// From the worst grade to the best. The empty grades behind an occupied one are its own, and so are those before the best.
     pub fn pool(&mut self, table: &Table) {
         let mut count = 0;
+        let mut grades = 1;
         for (obligors, defaults) in table.counts().rev() {
-            let mut block = Block {
-                grades: 1,
+            if obligors == 0 {
+                grades += 1;
+                continue;
+            }
+            let block = Block {
+                grades,
                 obligors,
                 defaults,
             };
-            while count > 0 {
-                let next = self.get(count - 1);
-                if block.is_below(&next) {
-                    break;
-                }
-                block = block.joined(&next);
-                count -= 1;
-            }
-            self.set(count, &block);
-            count += 1;
+            count = self.push(block, count);
+            grades = 1;
         }
+        self.grades[count - 1] += grades - 1;
         self.count = count;
     }
 

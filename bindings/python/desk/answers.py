@@ -91,14 +91,14 @@ class Measures(NamedTuple):
 
 
 class PooledGrade(NamedTuple):
-    """The block of neighbouring grades that pooling puts a grade into."""
+    """The block of neighbouring grades that pooling puts a grade into; of an empty grade, the block that is repeated for it."""
     defaults: int  # of the block
     obligors: int  # of the block
     band: int  # the smallest b from 0 to 13 with a rate of at most 100 times 2^b ppm; 14 if none
 
     @property
     def rate(self) -> WrittenFraction:
-        """The pooled default rate of the grade, which is the rate of its block."""
+        """The pooled default rate of the grade, which is the rate of the block."""
         return WrittenFraction(self.defaults, self.obligors)
 
     def __str__(self) -> str:

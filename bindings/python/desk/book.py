@@ -113,12 +113,13 @@ def end_within(book: bytes, start: int, rater: int, part_ends: str, end: int) ->
 
 
 def row_refusals(tables: Sequence[TableInBook], rater: int) -> Iterator[Refused]:
-    """Everything that load would refuse in a rater's rows, in its order: 8, 9, 10, then 11."""
+    """Everything that load would refuse in a rater's rows, in its order: row by row 8, 10, then 9, 11."""
     table = tables[rater - 1]
     names = (table.counts, 'defaults', 'announced')
     for fault in faults(table.counts, table.rows):
-        byte = table.at + ROW.size * fault.grade + 4 * fault.column
-        yield Refused(fault.number, f'byte {byte} (rater {rater}, grade {fault.grade + 1}, {names[fault.column]}): {fault.why}')
+        grade, place = (0, 'all grades') if fault.grade is None else (fault.grade, f'grade {fault.grade + 1}, {names[fault.column]}')
+        byte = table.at + ROW.size * grade + 4 * fault.column
+        yield Refused(fault.number, f'byte {byte} (rater {rater}, {place}): {fault.why}')
 
 
 def load_refusals(book: bytes, rater: int) -> list[Refused]:

@@ -69,7 +69,7 @@ class Desk:
     def load(self, place: int, source: Table | bytes, rater: int = 1) -> None:
         """Fills an empty place with a table, or with the table of a rater, counted from 1, of a book's bytes.
 
-        Refuses 1, 21, 2, 3, 4; table by table 31, 32, 6, 7, 32; 33; of the rater's rows, one by one, 8, 9, 10; 11. From 31 on and from 6 to
+        Refuses 1, 21, 2, 3, 4; table by table 31, 32, 6, 7, 32; 33; of the rater's rows, one by one, 8, 10; 9, 11. From 31 on and from 6 to
         11 `where` of what is raised says the byte, and whose table it is."""
         book = encode([(source.counts, source.rows)]) if isinstance(source, Table) else as_bytes(source)
         copied = (c_ubyte * len(book)).from_buffer_copy(book)
@@ -115,7 +115,14 @@ class Desk:
         return Spread(answer.total, answer.residual)
 
     def pool(self, place: int) -> list[PooledGrade]:
-        """For each grade, best first, the block that pooling puts it into. Refuses 1, 22."""
+        """For each grade, best first, the block that pooling puts it into. An empty grade belongs to none: its numbers are those of another
+        grade, repeated, and `repeats` of its table says of which. Refuses 1, 22.
+
+        >>> desk = Desk()
+        >>> desk.load(1, Table(obligors=[0, 10, 20], defaults=[0, 1, 4], announced=[0, 100_000, 200_000]))
+        >>> print(desk.pool(1)[0], desk.table(1).repeats, sep='; ')
+        0.100000 (1/10), band 10; (2, None, None)
+        """
         numbers = (c_uint32 * library.POOL_NUMBERS)()
         self.pool_into(place, numbers)
         return [PooledGrade(*numbers[3 * grade:3 * grade + 3]) for grade in range(self._place(place).grades)]

@@ -45,7 +45,8 @@ def price_ranges(desk: Desk) -> list[PriceRange]:
 
 
 def break_even(desk: Desk, place: int) -> set[Price]:
-    """The price ratios at which a block of the pooled scale costs the same turned away and accepted: its survivors to its defaults."""
+    """The price ratios at which a block of the pooled scale costs the same turned away and accepted: its survivors to its defaults.
+    Whether a block is repeated for an empty grade makes no difference."""
     return {Price(block.obligors - block.defaults, block.defaults).reduced() for block in desk.pool(place)}
 
 

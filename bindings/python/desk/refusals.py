@@ -10,7 +10,7 @@ MEANINGS = {
     6: 'grade count outside 1 to 40',
     7: 'kind above 1, or the two bytes after it not zero',
     8: 'defaults above obligors (kind 0)',
-    9: 'n is 0 (n: obligors of a grade)',
+    9: 'all grades are empty (empty: without obligors)',
     10: 'announced above 1,000,000',
     11: 'N above 1,000,000 (N: obligors of the table)',
     12: 'a price above 1,000,000',

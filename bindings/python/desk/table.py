@@ -21,7 +21,7 @@ Row = Tuple[int, int, int]  # first column, defaults, announced rate in ppm
 
 
 class Grade(NamedTuple):
-    """One grade: n obligors, of whom d defaulted, and the announced default rate in ppm (millionths)."""
+    """One grade: n obligors, of whom d defaulted, and the announced default rate in ppm (millionths). It is empty where n is 0."""
     obligors: int
     defaults: int
     announced: int
@@ -32,15 +32,15 @@ class Grade(NamedTuple):
         return self.obligors - self.defaults
 
     @property
-    def rate(self) -> Fraction:
-        """The observed default rate, d / n."""
-        return Fraction(self.defaults, self.obligors)
+    def rate(self) -> Fraction | None:
+        """The observed default rate, d / n; None of an empty grade, which has none."""
+        return Fraction(self.defaults, self.obligors) if self.obligors else None
 
 
 class Fault(NamedTuple):
     """What load would refuse in the rows of a table: the number, the grade and column (0 to 2) where it stands, and why."""
     number: int
-    grade: int | None  # counted from 0
+    grade: int | None  # counted from 0; None where it is the table as a whole
     column: int
     why: str
 
@@ -51,7 +51,7 @@ def obligors_of(counts: str, first: int, defaults: int) -> int:
 
 
 def faults(counts: str, rows: Sequence[Row]) -> Iterator[Fault]:
-    """Everything that load would refuse in these rows. The first is what it does refuse: 6, then row by row 8, 9, 10, then 11."""
+    """Everything that load would refuse in these rows. The first is what it does refuse: 6, then row by row 8, 10, then 9, 11."""
     if not rows:
         yield Fault(6, None, 0, f'no grade; a table has 1 to {MAX_GRADES}')
     if len(rows) > MAX_GRADES:
@@ -62,13 +62,13 @@ def faults(counts: str, rows: Sequence[Row]) -> Iterator[Fault]:
         if defaults > obligors:
             yield Fault(8, grade, 1, f'{readable(defaults)} defaults are above {readable(obligors)} obligors. Does the first column leave '
                                      'the defaulted out? Then it counts survivors')
-        elif obligors == 0:
-            yield Fault(9, grade, 0, 'nobody is in this grade: it has no obligors')
         if announced > MAX_ANNOUNCED:
             yield Fault(10, grade, 2, f'the announced rate {readable(announced)} is above {MAX_ANNOUNCED} ppm')
         total += obligors
         if total > MAX_OBLIGORS and above is None:
             above = Fault(11, grade, 0, f'the table has {readable(total)} obligors up to here, more than {MAX_OBLIGORS}')
+    if rows and not any(first or defaults for first, defaults, _ in rows):
+        yield Fault(9, None, 0, 'nobody is in any grade; at least one has to have an obligor')
     if above:
         yield above
 
@@ -115,7 +115,8 @@ class Table:
     """The grade table of one rater, best grade first. A table that load would refuse cannot be made: it raises Refused.
 
     Exactly one of `obligors` (everybody in the grade, the defaulted included) and `survivors` (the defaulted left out) is given. Survivors
-    taken for obligors change every rate and can make the losing scale win, while every figure still looks right.
+    taken for obligors change every rate and can make the losing scale win, while every figure still looks right. Grades may be empty, with
+    0 in both columns, as long as one is not.
 
     >>> Table(obligors=[10, 20], defaults=[1, 4], announced=[100_000, 200_000], name='in-house')
     Table 'in-house': 2 grades, 30 obligors = 25 survivors + 5 defaults
@@ -170,6 +171,18 @@ class Table:
     def survivors(self) -> int:
         """S."""
         return self.obligors - self.defaults
+
+    @property
+    def repeats(self) -> tuple[int | None, ...]:
+        """For each grade, if it is empty, the grade (counted from 1) whose numbers pool repeats for it: the next better occupied one, or
+        the best occupied one if none is better. None for an occupied grade.
+
+        >>> Table(obligors=[0, 10, 0, 20], defaults=[0, 1, 0, 4], announced=[0, 100_000, 100_000, 200_000]).repeats
+        (2, None, 2, None)
+        """
+        occupied = [number for number, grade in enumerate(self.grades, 1) if grade.obligors]
+        return tuple(None if number in occupied else max((each for each in occupied if each < number), default=occupied[0])
+                     for number in range(1, len(self.grades) + 1))
 
     def __eq__(self, other: object) -> bool:
         """By the grades: neither the name nor how the obligors were counted makes another table."""

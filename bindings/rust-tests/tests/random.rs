@@ -177,11 +177,17 @@ fn holds_the_same(desk: &Desk, plain: &reference::desk::Desk) -> bool {
     })
 }
 
-/// The lines that the C boundary answers to a script.
-fn answers(script: &Script) -> String {
+fn has_empty_grade(desk: &Desk, place: u32) -> bool {
+    let place = Place::try_from(place).expect("a place that is pooled");
+    desk.grades(place).any(|grade| grade.obligors == 0)
+}
+
+/// The lines that the C boundary answers to a script, and how many of its poolings were of tables
+/// with empty grades.
+fn answers(script: &Script) -> (String, u32) {
     let mut desk = Desk::empty();
     let mut plain = reference::desk::Desk::fresh();
-    let mut lines = String::new();
+    let (mut lines, mut with_empty_grades) = (String::new(), 0);
     for call in &script.calls {
         let before = desk.clone();
         let answer = answer(&mut desk, call);
@@ -190,23 +196,30 @@ fn answers(script: &Script) -> String {
         assert!(changes_desk(&answer) || desk == before, "{call}");
         plain.call(call);
         assert!(holds_the_same(&desk, &plain), "{call}\n{desk:?}");
+        if let (&Call::Pool { place, .. }, Answer::Pool(Ok(()), _)) = (call, &answer) {
+            with_empty_grades += u32::from(has_empty_grade(&desk, place));
+        }
         lines += &answer.line();
         lines.push('\n');
     }
     if !script.tail.is_empty() {
         lines += "end\n";
     }
-    lines
+    (lines, with_empty_grades)
 }
 
 fn agrees(seed: u64) {
     println!("{CALLS} calls, seed {seed} (DESK_SEED={seed} repeats it)");
+    let mut with_empty_grades = 0;
     for (seed, calls) in plan(seed, CALLS) {
         let script = Script::generate(seed, calls);
-        if let Err(difference) = judge(&script, &answers(&script)) {
+        let (lines, with_empty) = answers(&script);
+        if let Err(difference) = judge(&script, &lines) {
             panic!("{difference:#?}");
         }
+        with_empty_grades += with_empty;
     }
+    assert!(with_empty_grades >= 20, "{with_empty_grades} poolings");
 }
 
 #[test]

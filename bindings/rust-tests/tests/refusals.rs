@@ -15,6 +15,7 @@ use std::hint::black_box;
 const MIXED: Rows = &[(10, 2), (10, 1), (20, 4)];
 const NO_DEFAULTS: Rows = &[(3, 0)];
 const NO_SURVIVORS: Rows = &[(3, 3)];
+const TOP_IS_EMPTY: Rows = &[(0, 0), (10, 2), (10, 1), (0, 0), (20, 4)];
 const NO_PLACES: [u32; 4] = [0, 3, 257, u32::MAX];
 
 /// Sees a call refused with this number, and neither the desk nor what was lent changed.
@@ -177,6 +178,48 @@ fn damaged_books() {
     }
 }
 
+/// 9 means that all grades are empty, and stands behind the rows and before 11.
+#[test]
+fn all_grades_empty() {
+    let desk = desk_with(Some(MIXED), None);
+    for grades in 1..=40 {
+        let book = book_of(&vec![(0, 0); grades]);
+        let [mut survivors, mut defaulted, mut high] = [(); 3].map(|()| book.clone());
+        survivors[7] = 1; // kind
+        let last = book.len() - 12;
+        defaulted[last + 4] = 1;
+        high[last + 8..].copy_from_slice(&1_000_001_u32.to_le_bytes());
+        load_refused(&desk, 2, &book, 1, 9);
+        load_refused(&desk, 2, &survivors, 1, 9);
+        load_refused(&desk, 2, &defaulted, 1, 8);
+        load_refused(&desk, 2, &high, 1, 10);
+        for at in [last, 10] {
+            let mut occupied = book.clone();
+            occupied[at] = 1;
+            assert_eq!(sys::load(&mut desk.clone(), 2, &occupied, 1), 0);
+            occupied[at + 3] = 1; // 16,777,217 obligors
+            load_refused(&desk, 2, &occupied, 1, 11);
+        }
+    }
+}
+
+/// A place whose table has empty grades is loaded, and they bring neither defaults nor survivors.
+#[test]
+fn empty_grades_beside_others() {
+    let desk = desk_with(Some(TOP_IS_EMPTY), Some(&[(0, 0), (3, 0), (0, 0)]));
+    for place in [1, 2] {
+        load_refused(&desk, place, &book_of(&[(0, 0)]), 1, 21);
+    }
+    measures_refused(&desk, 2, 23);
+    compare_refused(Some(TOP_IS_EMPTY), Some(&[(0, 0), (3, 0)]), 23);
+    compare_refused(Some(TOP_IS_EMPTY), Some(&[(3, 3), (0, 0)]), 24);
+    compare_refused(Some(TOP_IS_EMPTY), Some(&[(20, 2), (20, 4), (0, 0)]), 25);
+    let mut verdict = sys::Verdict::default();
+    let same = desk_with(Some(TOP_IS_EMPTY), Some(MIXED));
+    assert_eq!(sys::compare(&same, &mut verdict), 0);
+    assert_eq!(verdict, sys::Verdict::default(), "equal");
+}
+
 #[test]
 fn price_too_high() {
     let desk = desk_with(Some(MIXED), Some(NO_DEFAULTS));
@@ -200,6 +243,16 @@ fn short_buffers() {
         write_refused(&desk, length, 13);
     }
     assert_eq!(desk.write_into(&mut [0; 64]), Ok(64));
+    // an empty grade needs as much as any other
+    let desk = desk_with(Some(TOP_IS_EMPTY), None);
+    for length in 0..15 {
+        pool_refused(&desk, 1, length, 13);
+    }
+    assert_eq!(sys::pool(&desk, 1, &mut [0; 15]), 0);
+    for length in 0..70 {
+        write_refused(&desk, length, 13);
+    }
+    assert_eq!(desk.write_into(&mut [0; 70]), Ok(70));
 }
 
 #[test]

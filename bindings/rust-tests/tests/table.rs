@@ -69,8 +69,9 @@ fn a_table_is_loaded_as_the_plain_version_reads_it() {
     }
 }
 
-/// A row that is often wrong in one way or several.
-fn any_row(random: &mut Random) -> Row {
+/// A row that is often wrong in one way or several; of so many in a hundred the grade is empty.
+fn any_row(random: &mut Random, empty: u64) -> Row {
+    let is_empty = random.chance(empty);
     let mut number = |usual: u64| {
         let number = random.between(0, usual);
         random.weighted(&[
@@ -81,11 +82,11 @@ fn any_row(random: &mut Random) -> Row {
             (1, u64::from(u32::MAX)),
         ])
     };
-    (
-        narrow(number(50_000)),
-        narrow(number(20)),
-        narrow(number(1_000_000)),
-    )
+    let [first, defaults, announced] = [50_000, 20, 1_000_000].map(|usual| narrow(number(usual)));
+    if is_empty {
+        return (0, 0, announced);
+    }
+    (first, defaults, announced)
 }
 
 /// The book that these rows would be, however many and wrong they are, laid out here once more.
@@ -114,11 +115,14 @@ fn bytes(kind: u8, rows: &[Row]) -> Vec<u8> {
 fn any_rows_are_refused_as_the_plain_version_refuses_them() {
     let mut random = Random::of_seed(16);
     let mut seen = [0; 12];
+    let mut with_empty_grades = 0;
     for _ in 0..40_000 {
         let count = random.weighted(&[(20, 2), (60, 5), (5, 0), (10, 40), (5, 41), (1, 200)]);
+        let empty = random.pick(&[0, 0, 20, 80, 100]);
         let rows: Vec<Row> = (0..random.between(0, count))
-            .map(|_| any_row(&mut random))
+            .map(|_| any_row(&mut random, empty))
             .collect();
+        let has_empty_grade = rows.iter().any(|row| (row.0, row.1) == (0, 0));
         let (kind, begun) = random.pick(&KINDS);
         let expected = book::read(&bytes(kind, &rows), 1).map(|_| ());
         let table = begun().grades(rows);
@@ -131,6 +135,7 @@ fn any_rows_are_refused_as_the_plain_version_refuses_them() {
             expected
         );
         seen[expected.err().unwrap_or(0) as usize] += 1;
+        with_empty_grades += u32::from(expected.is_ok() && has_empty_grade);
     }
     for number in [0, 6, 8, 9, 10, 11] {
         assert!(
@@ -139,4 +144,5 @@ fn any_rows_are_refused_as_the_plain_version_refuses_them() {
             seen[number]
         );
     }
+    assert!(with_empty_grades > 1_000, "{with_empty_grades}");
 }

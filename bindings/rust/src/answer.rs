@@ -57,7 +57,7 @@ impl fmt::Display for Price {
 #[repr(C)]
 #[derive(Clone, Copy, Debug, Default, PartialEq, Eq, Hash)]
 pub struct Cutoff {
-    /// How many of the worst grades are turned away.
+    /// How many of the worst grades are turned away, empty ones among them.
     pub cutoff: i64,
     /// u for each default not caught, v for each survivor turned away.
     pub cost: i64,
@@ -159,7 +159,7 @@ impl fmt::Display for Spread {
 /// ```
 #[derive(Clone, Copy, Debug, PartialEq, Eq, Hash)]
 pub struct Grade {
-    /// n: the defaulted and the surviving.
+    /// n: the defaulted and the surviving; 0 for an empty grade.
     pub obligors: u32,
     /// d, at most n.
     pub defaults: u32,
@@ -179,6 +179,22 @@ impl Grade {
     pub const fn survivors(self) -> u32 {
         self.obligors.saturating_sub(self.defaults)
     }
+
+    /// d/n: the default rate that was observed. An empty grade has none, which is another thing than
+    /// a rate of 0; [`Desk::pool`](crate::Desk::pool) repeats for it the numbers of an occupied one.
+    ///
+    /// ```
+    /// use desk::{Fraction, Grade};
+    ///
+    /// let grade = |obligors, defaults| Grade { obligors, defaults, announced: 750_000 };
+    /// assert_eq!(grade(4, 3).rate().map(Fraction::written), Some((3, 4)));
+    /// assert_eq!(grade(4, 0).rate().map(Fraction::written), Some((0, 4)));
+    /// assert_eq!(grade(0, 0).rate(), None);
+    /// ```
+    #[must_use]
+    pub fn rate(self) -> Option<Fraction> {
+        Fraction::new(self.defaults.into(), self.obligors.into())
+    }
 }
 
 /// `4 obligors = 1 survivors + 3 defaults, announced 750000 ppm`.
@@ -190,7 +206,9 @@ impl fmt::Display for Grade {
     }
 }
 
-/// The block of neighbouring grades that pooling puts a grade into, and the band of its rate.
+/// The block of neighbouring grades that pooling puts a grade into, and the band of its rate; for an
+/// empty grade, which is in none, those of the next better occupied grade, or of the best occupied
+/// one if none is better.
 ///
 /// ```
 /// use desk::PooledGrade;
@@ -210,7 +228,7 @@ pub struct PooledGrade {
 
 impl PooledGrade {
     /// The default rate of the block, which is the pooled rate of the grade; 0/1 for a block
-    /// without obligors, which pooling does not answer.
+    /// without obligors, which pooling answers for no grade, empty or not.
     ///
     /// ```
     /// use desk::PooledGrade;

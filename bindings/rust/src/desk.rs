@@ -53,10 +53,10 @@ impl Desk {
     /// 4 ([`Refusal::Rater`]); then table by table 31 ([`Refusal::TableStart`]),
     /// 32 ([`Refusal::TableEnd`]) of its header, 6 ([`Refusal::Grades`]), 7 ([`Refusal::Kind`]),
     /// 32 ([`Refusal::TableEnd`]) of its rows; then 33 ([`Refusal::Leftover`]); then row by row of
-    /// this rater 8 ([`Refusal::Defaults`]), 9 ([`Refusal::NoObligors`]),
-    /// 10 ([`Refusal::Announced`]); then 11 ([`Refusal::Obligors`]). Where a table is not in its
-    /// place, or bytes follow the last, [`WrongCut::find`](crate::WrongCut::find) says at which
-    /// table and byte.
+    /// this rater 8 ([`Refusal::Defaults`]), 10 ([`Refusal::Announced`]); then 9
+    /// ([`Refusal::NoObligors`]) where all of them are empty; then 11 ([`Refusal::Obligors`]). Where
+    /// a table is not in its place, or bytes follow the last,
+    /// [`WrongCut::find`](crate::WrongCut::find) says at which table and byte.
     pub fn load(&mut self, place: Place, book: &[u8], rater: u32) -> Result<(), Refusal> {
         accepted(sys::load(self, place.into(), book, rater))
     }
@@ -78,7 +78,8 @@ impl Desk {
     ///
     /// As [`load`](Desk::load) of a book with this table: 21 ([`Refusal::Loaded`]),
     /// 6 ([`Refusal::Grades`]); then row by row 8 ([`Refusal::Defaults`]) (by obligors only),
-    /// 9 ([`Refusal::NoObligors`]), 10 ([`Refusal::Announced`]); then 11 ([`Refusal::Obligors`]).
+    /// 10 ([`Refusal::Announced`]); then 9 ([`Refusal::NoObligors`]) where all are empty; then
+    /// 11 ([`Refusal::Obligors`]).
     pub fn load_table(&mut self, place: Place, table: &Table) -> Result<(), Refusal> {
         self.load(place, &table::bytes(slice::from_ref(table)), 1)
     }
@@ -102,7 +103,10 @@ impl Desk {
         accepted(sys::clear(self, place.into()))
     }
 
-    /// For each grade of the table in a place, best first, the block that pooling puts it into.
+    /// For each grade of the table in a place, best first, the block that pooling puts it into. An
+    /// empty grade, without obligors, is in none: the next better occupied grade is repeated for it,
+    /// or the best occupied one if none is better. Which grades are empty, [`grades`](Desk::grades)
+    /// tells.
     ///
     /// ```
     /// use desk::{Desk, Place, Table};
@@ -112,6 +116,11 @@ impl Desk {
     /// desk.load_table(Place::First, &Table::by_obligors().grades(rows))?;
     /// let rates: Vec<_> = desk.pool(Place::First)?.into_iter().map(|grade| grade.rate().written()).collect();
     /// assert_eq!(rates, [(3, 20), (3, 20), (4, 20)]);
+    ///
+    /// let ends_empty = Table::by_obligors().grade(0, 0, 0).grades(rows).grade(0, 0, 1_000_000);
+    /// desk.load_table(Place::Second, &ends_empty)?;
+    /// let rates: Vec<_> = desk.pool(Place::Second)?.into_iter().map(|grade| grade.rate().written()).collect();
+    /// assert_eq!(rates, [(3, 20), (3, 20), (3, 20), (4, 20), (4, 20)]);
     /// # Ok::<(), desk::Refusal>(())
     /// ```
     ///
@@ -130,8 +139,8 @@ impl Desk {
         Ok(numbers.chunks(3).take(grades).map(pooled).collect())
     }
 
-    /// The same as three numbers a grade, in memory that is lent: block defaults, block obligors,
-    /// band. Further numbers are kept. [`POOL_NUMBERS`] are enough for any table.
+    /// The same as three numbers a grade, empty ones too, in memory that is lent: block defaults, block
+    /// obligors, band. Further numbers are kept. [`POOL_NUMBERS`] are enough for any table.
     ///
     /// ```
     /// use desk::{Desk, Place, Table};

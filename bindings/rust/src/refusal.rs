@@ -70,7 +70,7 @@ refusals! {
     Grades = 6, "grade count outside 1 to 40";
     Kind = 7, "kind above 1, or the two bytes after it not zero";
     Defaults = 8, "defaults above obligors (kind 0)";
-    NoObligors = 9, "n is 0 (n: obligors of a grade)";
+    NoObligors = 9, "all grades are empty (empty: without obligors)";
     Announced = 10, "announced above 1,000,000";
     Obligors = 11, "N above 1,000,000 (N: obligors of the table)";
     Price = 12, "a price above 1,000,000";

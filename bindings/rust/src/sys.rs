@@ -249,7 +249,7 @@ unsafe extern "C" {
 }
 
 /// Fills an empty place with the table of a rater of a book. Refuses 1, 21, 2, 3, 4; table by
-/// table 31, 32, 6, 7, 32; 33; of the rater's rows 8, 9, 10; 11.
+/// table 31, 32, 6, 7, 32; 33; of the rater's rows, one by one, 8, 10; 9; 11.
 ///
 /// ```
 /// use desk::{sys, Desk, Table};
@@ -267,7 +267,8 @@ pub fn load(desk: &mut Desk, place: u32, book: &[u8], rater: u32) -> u32 {
     unsafe { desk_load(desk, place, book.as_ptr(), book.len(), rater) }
 }
 
-/// Writes three numbers a grade and keeps the further ones. Refuses 1, 22, 13.
+/// Writes three numbers a grade, for an empty one those of the next better occupied grade or else of
+/// the best occupied one, and keeps the further ones. Refuses 1, 22, 13.
 ///
 /// ```
 /// use desk::{sys, Desk, Place, Table};

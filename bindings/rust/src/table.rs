@@ -41,6 +41,21 @@ use crate::{GRADES, RATERS};
 /// assert_eq!(costs(Table::by_obligors), Ok((3, 2)), "which is not");
 /// ```
 ///
+/// Grades may be empty, that is without obligors, as long as one is occupied. Empty ones add nothing to
+/// any count and are numbered with the others.
+///
+/// ```
+/// use desk::{Desk, Place, Refusal, Table};
+///
+/// let top_is_empty = Table::by_obligors().grade(0, 0, 100).grade(5, 2, 400_000);
+/// let mut desk = Desk::empty();
+/// desk.load_table(Place::First, &top_is_empty)?;
+/// assert_eq!(desk.grades(Place::First).len(), 2);
+/// let all_are_empty = Table::by_obligors().grade(0, 0, 100).grade(0, 0, 400_000);
+/// assert_eq!(desk.load_table(Place::Second, &all_are_empty), Err(Refusal::NoObligors));
+/// # Ok::<(), desk::Refusal>(())
+/// ```
+///
 /// A table is judged where it is loaded or made a book of, by the library's own load. Two tables are
 /// equal if they are written alike, with the same first column; whether two hold the same grades is
 /// seen where they are loaded.
@@ -144,8 +159,8 @@ impl Table {
     ///
     /// What load of the book refuses, tried for each rater: 3 ([`Refusal::Raters`]) for no table or
     /// more than [`RATERS`]; then, table by table, 6 ([`Refusal::Grades`]); then, table by table,
-    /// 8 ([`Refusal::Defaults`]) (by obligors only), 9 ([`Refusal::NoObligors`]) and
-    /// 10 ([`Refusal::Announced`]) row by row, and 11 ([`Refusal::Obligors`]).
+    /// 8 ([`Refusal::Defaults`]) (by obligors only) and 10 ([`Refusal::Announced`]) row by row, 9
+    /// ([`Refusal::NoObligors`]) where all of them are empty, and 11 ([`Refusal::Obligors`]).
     pub fn book(tables: &[Table]) -> Result<Vec<u8>, Refusal> {
         let book = bytes(tables);
         for rater in (1..).take(tables.len().max(1)) {

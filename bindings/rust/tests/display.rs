@@ -183,6 +183,15 @@ fn answers_print_in_one_line() {
         grade.to_string(),
         "5 obligors = 3 survivors + 2 defaults, announced 400000 ppm"
     );
+    let empty = Grade {
+        obligors: 0,
+        defaults: 0,
+        announced: 100,
+    };
+    assert_eq!(
+        empty.to_string(),
+        "0 obligors = 0 survivors + 0 defaults, announced 100 ppm"
+    );
 }
 
 #[test]

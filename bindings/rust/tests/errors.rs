@@ -65,14 +65,53 @@ fn the_order_is_that_of_the_header() {
     let mut count = 0;
     for (method, said) in sections(&read("src/desk.rs")) {
         let function = match method.as_str() {
-            "load_table" | "pool" | "write" => continue, // made of others
+            "pool" | "write" => continue, // made of others
+            "load_table" => "load_rows",
             "pool_into" => "pool",
             "write_into" => "write",
             name => name,
         };
         let mut expected = refused_in_c(&header, function);
         expected.retain(|&number| number != Refusal::Place.number()); // a Place is 1 or 2
+        if function == "load_rows" {
+            expected.retain(|&number| number != Refusal::Kind.number()); // and so is what is counted
+        }
         assert_eq!(numbers(&said), expected, "{method}");
+        count += 1;
+    }
+    assert_eq!(count, 10);
+}
+
+/// A book of tables is refused as the rows of one, with the number of raters before.
+#[test]
+fn the_order_of_a_book_is_that_of_its_rows() {
+    let rows = refused_in_c(&read("../../include/desk.h"), "load_rows");
+    let places = [Refusal::Place, Refusal::Loaded, Refusal::Kind].map(Refusal::number);
+    let of_a_table = rows.into_iter().filter(|number| !places.contains(number));
+    let expected: Vec<u32> = [Refusal::Raters.number()]
+        .into_iter()
+        .chain(of_a_table)
+        .collect();
+    let [(_, said)] = &sections(&read("src/table.rs"))[..] else {
+        panic!("another method of a table refuses");
+    };
+    assert_eq!(numbers(said), expected);
+}
+
+#[test]
+fn the_order_of_sys_is_that_of_the_header() {
+    let (header, source) = (read("../../include/desk.h"), read("src/sys.rs"));
+    let mut count = 0;
+    for part in source.split("Refuses").skip(1) {
+        let (said, behind) = part.split_once("```").expect("an example");
+        let lines = behind.lines().map(str::trim);
+        let mut names = lines.filter_map(|line| {
+            line.strip_prefix("pub safe fn ")
+                .or(line.strip_prefix("pub fn "))
+        });
+        let name = names.next().and_then(|line| line.split('(').next());
+        let name = name.expect("a function");
+        assert_eq!(numbers(said), refused_in_c(&header, name), "{name}");
         count += 1;
     }
     assert_eq!(count, 9);

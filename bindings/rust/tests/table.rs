@@ -67,11 +67,8 @@ fn row_by_row_and_then_the_total() {
     // each of two faults comes before the next
     assert_eq!(load(&obligors().grade(2, 3, max)), Err(Refusal::Defaults));
     assert_eq!(load(&obligors().grade(0, 1, 0)), Err(Refusal::Defaults));
-    assert_eq!(load(&obligors().grade(0, 0, max)), Err(Refusal::NoObligors));
-    assert_eq!(
-        load(&survivors().grade(0, 0, max)),
-        Err(Refusal::NoObligors)
-    );
+    assert_eq!(load(&obligors().grade(0, 0, max)), Err(Refusal::Announced));
+    assert_eq!(load(&survivors().grade(0, 0, max)), Err(Refusal::Announced));
     assert_eq!(
         load(&obligors().grade(max, 0, 1_000_001)),
         Err(Refusal::Announced)
@@ -94,12 +91,54 @@ fn row_by_row_and_then_the_total() {
         Err(Refusal::Announced)
     );
     assert_eq!(
-        load(&obligors().grade(0, 0, 0).grade(2, 3, 0)),
-        Err(Refusal::NoObligors)
+        load(&obligors().grade(2, 3, 0).grade(1, 0, max)),
+        Err(Refusal::Defaults)
     );
     // by survivors no count of defaults is too high
     assert_eq!(load(&survivors().grade(0, 3, 0)), Ok(()));
     assert_eq!(load(&survivors().grade(0, 1_000_000, 1_000_000)), Ok(()));
+}
+
+/// 9 stands behind the rows and before 11, and an empty grade beside an occupied one is accepted.
+#[test]
+fn empty_grades() {
+    for begun in [Table::by_obligors, Table::by_survivors] {
+        let empty = |count| begun().grades(std::iter::repeat_n((0, 0, 1_000_000), count));
+        for count in 1..=GRADES {
+            assert_eq!(load(&empty(count)), Err(Refusal::NoObligors), "{count}");
+            // every row is looked at before
+            let high = empty(count - 1).grade(0, 0, 1_000_001);
+            assert_eq!(load(&high), Err(Refusal::Announced), "{count}");
+        }
+        for better in 0..GRADES {
+            let worse = std::iter::repeat_n((0, 0, 0), GRADES - 1 - better);
+            let occupied = |row| empty(better).grades([row]).grades(worse.clone());
+            assert_eq!(load(&occupied((1, 0, 0))), Ok(()), "{better}");
+            assert_eq!(load(&occupied((1, 1, 0))), Ok(()), "{better}");
+            let many = occupied((1_000_001, 0, 0));
+            assert_eq!(load(&many), Err(Refusal::Obligors), "{better}");
+        }
+    }
+    // by obligors nobody cannot default; by survivors a default is somebody
+    let defaulted = |begun: Table| begun.grade(0, 0, 0).grade(0, 1, 0);
+    assert_eq!(
+        load(&defaulted(Table::by_obligors())),
+        Err(Refusal::Defaults)
+    );
+    assert_eq!(load(&defaulted(Table::by_survivors())), Ok(()));
+}
+
+/// They stay in the table, where they were.
+#[test]
+fn empty_grades_are_held() {
+    let rows = [(0, 0, 5), (3, 2, 400_000), (0, 0, 6), (0, 1, 7), (0, 0, 8)];
+    let table = Table::by_survivors().grades(rows);
+    let mut desk = Desk::empty();
+    assert_eq!(desk.load_table(Place::Second, &table), Ok(()));
+    let held: Table = desk.grades(Place::Second).collect();
+    let rows = [(0, 0, 5), (5, 2, 400_000), (0, 0, 6), (1, 1, 7), (0, 0, 8)];
+    assert_eq!(held, Table::by_obligors().grades(rows));
+    assert_eq!(Table::book(&[held]), desk.write());
 }
 
 #[test]

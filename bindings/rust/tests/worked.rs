@@ -1,9 +1,11 @@
-//! The worked tables a to k of document 01, and R-1's of document 02.
+//! The worked tables a to k of document 01, and those of of document 02.
 
 mod common;
 
 use common::{Rows, desk_with, table_of};
-use desk::{Cutoff, Desk, Fraction, MAX_OBLIGORS, MAX_PRICE, Place, Price, Refusal, Verdict};
+use desk::{
+    Cutoff, Desk, Fraction, GRADES, MAX_OBLIGORS, MAX_PRICE, Place, Price, Refusal, Table, Verdict,
+};
 use std::fs;
 
 const E: Rows = &[(30, 2), (18, 4), (15, 10), (16, 14), (21, 20)];
@@ -159,11 +161,194 @@ fn k_limits() {
     assert_eq!(load(&[(1, 0); desk::GRADES + 1]), Err(Refusal::Grades));
     assert_eq!(load(&[(1, 0)]), Ok(()));
     assert_eq!(load(&[(0, 0)]), Err(Refusal::NoObligors));
+    // n 0 loads if another grade is occupied
+    assert_eq!(load(&[(0, 0), (1, 0)]), Ok(()));
+    assert_eq!(load(&[(1, 0), (0, 0)]), Ok(()));
+    assert_eq!(load(&[(0, 0), (most, 1), (0, 0)]), Ok(()));
+    assert_eq!(load(&[(0, 0); GRADES]), Err(Refusal::NoObligors));
+    assert_eq!(load(&[(0, 0); GRADES + 1]), Err(Refusal::Grades));
     let cut = &book_k()[..45];
     assert_eq!(
         Desk::empty().load(Place::First, cut, 1),
         Err(Refusal::Length)
     );
+}
+
+/// K's rows with empty grades among them, and what pool writes.
+const WITH_EMPTY_GRADES: [(Rows, &[[u32; 3]]); 6] = [
+    (
+        // the best
+        &[(0, 0), (10, 2), (10, 1), (20, 4)],
+        &[[3, 20, 11], [3, 20, 11], [3, 20, 11], [4, 20, 11]],
+    ),
+    (
+        // the worst
+        &[(10, 2), (10, 1), (20, 4), (0, 0)],
+        &[[3, 20, 11], [3, 20, 11], [4, 20, 11], [4, 20, 11]],
+    ),
+    (
+        // inside the first block
+        &[(10, 2), (0, 0), (10, 1), (20, 4)],
+        &[[3, 20, 11], [3, 20, 11], [3, 20, 11], [4, 20, 11]],
+    ),
+    (
+        // between the blocks
+        &[(10, 2), (10, 1), (0, 0), (20, 4)],
+        &[[3, 20, 11], [3, 20, 11], [3, 20, 11], [4, 20, 11]],
+    ),
+    (
+        // several at a time, everywhere
+        &[
+            (0, 0),
+            (0, 0),
+            (10, 2),
+            (0, 0),
+            (10, 1),
+            (0, 0),
+            (0, 0),
+            (20, 4),
+            (0, 0),
+            (0, 0),
+        ],
+        &[
+            [3, 20, 11],
+            [3, 20, 11],
+            [3, 20, 11],
+            [3, 20, 11],
+            [3, 20, 11],
+            [3, 20, 11],
+            [3, 20, 11],
+            [4, 20, 11],
+            [4, 20, 11],
+            [4, 20, 11],
+        ],
+    ),
+    (
+        // one occupied grade alone
+        &[(0, 0), (20, 4), (0, 0)],
+        &[[4, 20, 11], [4, 20, 11], [4, 20, 11]],
+    ),
+];
+
+#[test]
+fn r4_an_empty_grade_repeats_an_occupied_one() {
+    for (rows, pooled) in WITH_EMPTY_GRADES {
+        let desk = desk_of(rows);
+        let expected = pooled.concat();
+        let (mut exact, mut longer) = (vec![7; expected.len()], vec![7; expected.len() + 2]);
+        assert_eq!(desk.pool_into(Place::First, &mut exact), Ok(()));
+        assert_eq!(exact, expected, "{rows:?}");
+        assert_eq!(desk.pool_into(Place::First, &mut longer), Ok(()));
+        assert_eq!(longer, [expected.clone(), vec![7; 2]].concat(), "{rows:?}");
+        let mut short = vec![7; expected.len() - 1];
+        let refused = desk.pool_into(Place::First, &mut short);
+        assert_eq!(refused, Err(Refusal::Buffer), "{rows:?}");
+        assert!(short.iter().all(|&number| number == 7), "{rows:?}");
+        let grades = desk.pool(Place::First).expect("it is loaded");
+        let numbers = |grade: &desk::PooledGrade| [grade.defaults, grade.obligors, grade.band];
+        assert_eq!(grades.iter().map(numbers).collect::<Vec<_>>(), pooled);
+    }
+}
+
+/// An empty grade has no rate of its own; the pooled one is that of the grade that is repeated for it.
+#[test]
+fn r4_rates_of_empty_grades() {
+    let desk = desk_of(&[(0, 0), (20, 0), (0, 0), (20, 4)]);
+    let rates: Vec<Option<(i64, i64)>> = desk
+        .grades(Place::First)
+        .map(|grade| grade.rate().map(Fraction::written))
+        .collect();
+    assert_eq!(rates, [None, Some((0, 20)), None, Some((4, 20))]);
+    let pooled = desk.pool(Place::First).expect("it is loaded");
+    let rates = pooled.iter().map(|grade| grade.rate().written());
+    let expected = [(0, 20), (0, 20), (0, 20), (4, 20)];
+    assert_eq!(rates.collect::<Vec<_>>(), expected);
+}
+
+#[test]
+fn r4_an_empty_grade_adds_nothing() {
+    let rows = [(0, 0, 900_000), (10, 2, 100_000), (10, 1, 150_000)];
+    let rows = [&rows[..], &[(0, 0, 0), (20, 4, 200_000), (0, 0, 1_000_000)]].concat();
+    let mut desk = Desk::empty();
+    let table = Table::by_obligors().grades(rows);
+    assert_eq!(desk.load_table(Place::First, &table), Ok(()));
+    assert_eq!(desk.load(Place::Second, &book_k(), 1), Ok(()));
+    let both = [Place::First, Place::Second];
+    let [with, without] = both.map(|place| desk.measures(place).expect("mixed"));
+    assert_eq!(
+        (with.defaults, with.survivors),
+        (without.defaults, without.survivors)
+    );
+    for (one, other) in [
+        (with.gini, without.gini),
+        (with.roc, without.roc),
+        (with.cap, without.cap),
+        (with.pietra, without.pietra),
+    ] {
+        assert_eq!(one.written(), other.written());
+    }
+    let [with, without] = both.map(|place| desk.brier(place).map(Fraction::written));
+    assert_eq!(with, without);
+    assert_eq!(desk.spread(Place::First), desk.spread(Place::Second));
+    assert_eq!(desk.compare(), Ok(Verdict::Equal));
+}
+
+/// Cutoffs number all grades; among equals the smallest is meant.
+#[test]
+fn r4_cutoffs_number_empty_grades() {
+    let price = Price { u: 1, v: 3 };
+    let cases: [(Rows, i64); 4] = [
+        (&[(5, 2), (1, 1)], 1),
+        (&[(5, 2), (0, 0), (1, 1)], 1),
+        (&[(5, 2), (1, 1), (0, 0)], 2),
+        (&[(0, 0), (5, 2), (0, 0), (1, 1), (0, 0), (0, 0)], 3),
+    ];
+    for (rows, cutoff) in cases {
+        let desk = desk_of(rows);
+        let cheapest = desk.cheapest(Place::First, price);
+        assert_eq!(cheapest, Ok(Cutoff { cutoff, cost: 2 }), "{rows:?}");
+        let measures = desk.measures(Place::First).expect("mixed");
+        assert_eq!(measures.pietra.written(), (3, 9), "{rows:?}");
+        assert_eq!(measures.cutoff, cutoff, "{rows:?}");
+    }
+}
+
+#[test]
+fn r4_verdicts_of_scales_with_empty_grades() {
+    let fine: Rows = &[(0, 0), (2, 0), (2, 1), (0, 0), (2, 2)];
+    let coarse: Rows = &[(3, 1), (3, 2), (0, 0)];
+    assert_eq!(verdict(fine, &[(2, 0), (2, 1), (2, 2)]), Verdict::Equal);
+    assert!(matches!(verdict(fine, coarse), Verdict::First { .. }));
+    assert!(matches!(verdict(coarse, fine), Verdict::Second { .. }));
+    let desk = desk_with(
+        Some(&[(5, 2), (0, 0), (1, 1)]),
+        Some(&[(0, 0), (2, 0), (4, 3)]),
+    );
+    assert!(matches!(desk.compare(), Ok(Verdict::Crossing { .. })));
+    assert_eq!(costs(&desk, Price { u: 1, v: 1 }), (2, 1));
+    assert_eq!(costs(&desk, Price { u: 1, v: 3 }), (2, 3));
+}
+
+#[test]
+fn r4_empty_grades_are_written_and_load_back() {
+    for (rows, _) in WITH_EMPTY_GRADES {
+        let row = |&(obligors, defaults): &(u32, u32)| (obligors - defaults, defaults, 5);
+        let table = Table::by_survivors().grades(rows.iter().map(row));
+        let mut desk = desk_of(rows);
+        assert_eq!(desk.load_table(Place::Second, &table), Ok(()));
+        let book = desk.write().expect("it is loaded");
+        assert_eq!(book.len(), 4 + 2 * (2 + 4 + 12 * rows.len()));
+        let mut again = Desk::empty();
+        assert_eq!(again.load(Place::First, &book, 1), Ok(()));
+        assert_eq!(again.load(Place::Second, &book, 2), Ok(()));
+        assert_eq!(again, desk, "{rows:?}");
+        for place in [Place::First, Place::Second] {
+            let held = again
+                .grades(place)
+                .map(|grade| (grade.obligors, grade.defaults));
+            assert_eq!(held.collect::<Vec<_>>(), rows);
+        }
+    }
 }
 
 #[test]

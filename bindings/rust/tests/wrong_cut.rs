@@ -217,7 +217,9 @@ fn books_that_are_not_cut_wrong() {
     refused(&with(whole(), 56, &[1]), Refusal::Kind);
     let upside_down = with(whole(), 11, &[0, 0, 0, 1]);
     refused(&upside_down, Refusal::Defaults);
-    refused(&with(whole(), 14, &[0; 8]), Refusal::NoObligors);
+    let first_empty = with(whole(), 14, &[0; 8]);
+    assert_eq!((loaded(&first_empty), find(&first_empty)), (0, None));
+    refused(&with(first_empty, 26, &[0; 8]), Refusal::NoObligors);
     refused(&with(whole(), 22, &[255; 4]), Refusal::Announced);
     refused(&with(whole(), 14, &[255; 4]), Refusal::Obligors);
     // rows of a rater that is not loaded

@@ -12,3 +12,4 @@ pub mod Back
 pub mod RoundTrip
 pub mod Again
 pub mod WrongCut
+pub mod Emptiness

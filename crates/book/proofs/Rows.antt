@@ -3,13 +3,15 @@ use Prim.Native.Nat.{ℕ, zero, suc, _+_, _-_, _*_, _≤_, _<_}
 use mathlib.Core.Path.{_≡_, refl, sym, ap, _∙_}
 use mathlib.Core.Bool.{Bool, true, false}
 use mathlib.Core.List.{List, [], _∷_, _++_, map}
+use native.Mathlib.Decide.{decLe}
 use native.Mathlib.Nat.{add-zero}
 use native.Mathlib.Omega.{arith}
 use borrow.Author.Tests.{le-leb, lt-leb, leb-true, leb-false}
 use lib.Dec.{leb}
 use lib.ListN.{length}
-use Rattle.table.specs.Table.{Table, Grade, obligorsIn}
+use Rattle.table.specs.Table.{Table, Grade, occupied, obligorsIn}
 use Rattle.table.specs.Counts.{largest, capped}
+use Rattle.table.proofs.Occupied.{someone}
 use Rattle.book.specs.Checks.{fault}
 use Rattle.book.specs.Rows.{gradeIn, gradesIn, rowChecks, rowsFault, totalChecks, tableFault}
 use Rattle.book.specs.Private.{cappedGrade}
@@ -65,10 +67,12 @@ leb-same a b c d false e f g = e ∙ sym (lt-leb c d (g (leb-false a b e)))
 pub capped-fault : (g : Grade) → g .defaults ≤ largest → fault (rowChecks (cappedGrade g)) ≡ fault (rowChecks g)
 unfolding fault rowChecks
 capped-fault g h =
-    rw (
-      leb-same (g .defaults) (capped (g .obligors)) (g .defaults) (g .obligors) _ refl (λ l. omega arith) (λ l. omega arith),
-      leb-same 1 (capped (g .obligors)) 1 (g .obligors) _ refl (λ l. omega arith) (λ l. omega arith),
-    )
+    rw (leb-same (g .defaults) (capped (g .obligors)) (g .defaults) (g .obligors) _ refl (λ l. omega arith) (λ l. omega arith))
+
+-- A table of no obligors has empty grades only: the code knows the total, and counts no occupied grades.
+
+pub all-empty : (t : Table) → obligorsIn t < 1 → length (occupied t) < 1
+all-empty t h = elim (decLe 1 (length (occupied t))) [ yes o ↦ absurd (omega (arith, someone t o)) | no n ↦ omega arith ]
 
 -- The fault of a table is that of its rows, and if they have none that of its total.
 

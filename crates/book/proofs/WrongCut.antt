@@ -1,6 +1,6 @@
 -- Where a book is cut wrong the checks answer its number, and where they answer 31, 32 or 33 it is cut wrong so.
 use Prim.Native.Nat.{ℕ, zero, suc, _+_, _-_, _≤_, _<_}
-use mathlib.Core.Path.{_≡_, refl, sym, _∙_}
+use mathlib.Core.Path.{_≡_, sym, _∙_}
 use mathlib.Core.Bool.{Bool}
 use mathlib.Core.List.{List, [], _∷_}
 use native.Mathlib.Nat.{add-zero}
@@ -15,7 +15,7 @@ use Rattle.book.specs.Rows.{rowChecks, totalChecks, tableFault, tableOfR
 use Rattle.book.specs.Reading.{readFault}
 use Rattle.book.specs.WrongCut.{endAfter, Laid, FirstLaid, WrongCut, elsewhere, header, rows, leftover}
 use Rattle.book.proofs.Checks.{Finds, found, none, pass, same, over, other, finds, held, stop, go, first-none, first-some}
-use Rattle.book.proofs.Numbers.{allPass, fault-passes, first-passes, rows-pass}
+use Rattle.book.proofs.Numbers.{allPass, fault-passes, first-passes, rows-pass, past}
 
 -- What is cut wrong is told.
 
@@ -114,10 +114,8 @@ abbrev pub isLow : ℕ → Bool
 isLow n = ltb n 31
 
 -- Of two faults, the one that is not low: the second where the first is low, the first where the second is.
-pub past-low : (n m r : ℕ) → T (isLow n) → 31 ≤ r → firstFault n m ≡ r → (n ≡ 0) × (m ≡ r)
-unfolding firstFault
-past-low zero m r h k e = (refl, e)
-past-low (suc n) m r h k e = absurd (omega (arith, ltb→lt (suc n) 31 h))
+past-low : (n m r : ℕ) → T (isLow n) → 31 ≤ r → firstFault n m ≡ r → (n ≡ 0) × (m ≡ r)
+past-low n m r h k e = past isLow n m r h (λ l. omega (arith, ltb→lt r 31 l)) e
 
 before-low : (n m r : ℕ) → T (isLow m) → 31 ≤ r → firstFault n m ≡ r → n ≡ r
 unfolding firstFault

@@ -6,13 +6,13 @@ use mathlib.Core.Bool.{true}
 use mathlib.Core.List.{List, []}
 use lib.ListN.{length, getD, take}
 use Rattle.table.specs.declared.Place.{Place}
-use Rattle.table.specs.Table.{Every, Sound, survivors}
+use Rattle.table.specs.Table.{Every, Sound, occupied, survivors}
 use Rattle.table.specs.Place.{gradeAt, tableOf, blank, placeOf}
 use Rattle.book.specs.Bytes.{Byte, fourAt}
 use Rattle.book.specs.Checks.{fault}
 use Rattle.book.specs.Layout.{raters, startOf, gradesAt, kindAt, headChecks, layoutFault}
 use Rattle.book.specs.WrongCut.{WrongCut}
-use Rattle.book.specs.Rows.{tableOfRater, tablesIn}
+use Rattle.book.specs.Rows.{tableOfRater, tablesIn, rowsFault}
 use Rattle.book.specs.Reading.{readFault}
 use Rattle.book.specs.Encode.{encode}
 use Rattle.book.specs.Writing.{tablesOf, writeAnswer, bufferAfter}
@@ -28,6 +28,22 @@ pub record Accepted (b : List ℕ) (j : ℕ) (p : Place) : Type 0 where
 -- The table in a place is that of the rater loaded there, as it stands in the book; it is as "A grade table" says, and nothing stands behind it.
 abbrev pub ReadingIsSound : Type 0
 ReadingIsSound = (b : List ℕ) (j : ℕ) → readFault b j ≡ 0 → Accepted b j (placeOf (tableOfRater b j))
+
+-- The other way: of a book that is laid out, every such table is read. R-4: "n 0 loads if another grade is occupied."
+abbrev pub SoundTablesAreRead : Type 0
+SoundTablesAreRead =
+    (b : List ℕ) (j : ℕ) → layoutFault b ≡ 0 → 1 ≤ j → j ≤ raters b → Sound (tableOfRater b j) → readFault b j ≡ 0
+
+-- R-4: 9 "means that all grades are empty", and stands behind the row checks: it is given for no other table,
+abbrev pub NineMeansAllEmpty : Type 0
+NineMeansAllEmpty =
+    (b : List ℕ) (j : ℕ) → readFault b j ≡ 9 → (rowsFault (tableOfRater b j) ≡ 0) × (occupied (tableOfRater b j) ≡ [])
+
+-- and for every such table of a book that is laid out, if no row has a fault.
+abbrev pub AllEmptyIsTold : Type 0
+AllEmptyIsTold =
+    (b : List ℕ) (j : ℕ) → layoutFault b ≡ 0 → 1 ≤ j → j ≤ raters b
+    → rowsFault (tableOfRater b j) ≡ 0 → occupied (tableOfRater b j) ≡ [] → readFault b j ≡ 9
 
 -- "Kind of first column (0 obligors, 1 survivors)": so many obligors, or so many survivors, has grade i.
 abbrev pub FirstColumnIsOfItsKind : Type 0
@@ -63,6 +79,9 @@ WrongCutsAreMeant = (b : List ℕ) (j n : ℕ) → 31 ≤ n → readFault b j �
 -- All of them: what the function `claims` of this crate promises.
 pub record Claims : Type 0 where
   pub reading-is-sound : ReadingIsSound
+  pub sound-tables-are-read : SoundTablesAreRead
+  pub nine-means-all-empty : NineMeansAllEmpty
+  pub all-empty-is-told : AllEmptyIsTold
   pub first-column-is-of-its-kind : FirstColumnIsOfItsKind
   pub written-book-reads-back : WrittenBookReadsBack
   pub read-book-writes-back : ReadBookWritesBack

@@ -3,7 +3,8 @@ use Prim.Native.Nat.{ℕ, zero, suc, _+_}
 use mathlib.Core.Bool.{cond}
 use mathlib.Core.List.{List, [], _∷_}
 use lib.Dec.{eqb}
-use Rattle.table.specs.Table.{Table, Grade, obligorsIn}
+use lib.ListN.{length}
+use Rattle.table.specs.Table.{Table, Grade, occupied, obligorsIn}
 use Rattle.book.specs.Bytes.{fourAt}
 use Rattle.book.specs.Checks.{Check, at-most, fault, firstFault}
 use Rattle.book.specs.Layout.{startOf, gradesAt, kindAt}
@@ -41,20 +42,16 @@ tablesIn b j (suc k) = tableOfRater b j ∷ tablesIn b (suc j) k
 
 -- One row. Of kind 1 the first check never fails: n is first column + defaults.
 unfoldable pub rowChecks : Grade → List Check
-rowChecks g =
-    at-most (g .defaults) (g .obligors) 8
-    ∷ at-most 1 (g .obligors) 9
-    ∷ at-most (g .announced) 1_000_000 10
-    ∷ []
+rowChecks g = at-most (g .defaults) (g .obligors) 8 ∷ at-most (g .announced) 1_000_000 10 ∷ []
 
 -- row by row
 unfoldable pub rowsFault : Table → ℕ
 rowsFault [] = 0
 rowsFault (g ∷ t) = firstFault (fault (rowChecks g)) (rowsFault t)
 
--- the checks after the last row
+-- The checks after the last row. R-4: "Number 9 moves from the row checks to just before 11 and means that all grades are empty."
 unfoldable pub totalChecks : Table → List Check
-totalChecks t = at-most (obligorsIn t) 1_000_000 11 ∷ []
+totalChecks t = at-most 1 (length (occupied t)) 9 ∷ at-most (obligorsIn t) 1_000_000 11 ∷ []
 
 unfoldable pub tableFault : Table → ℕ
 tableFault t = firstFault (rowsFault t) (fault (totalChecks t))

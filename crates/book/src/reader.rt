@@ -64,12 +64,8 @@ fn row_at(b: &[u8], kind: usize, at: usize) -> Row
 fn row_fault(r: Row) -> u32
     ensures { λ n. ⌜ n ≡ fault (rowChecks (gradeOf r)) ⌝ }
 {
-    let obligors = r.obligors.0;
-    if obligors < r.defaults {
+    if r.obligors.0 < r.defaults {
         return MANY_DEFAULTS;
-    }
-    if obligors < 1 {
-        return NO_OBLIGORS;
     }
     if PPM < r.announced {
         return HIGH_RATE;
@@ -96,6 +92,9 @@ pub fn rows_fault(b: &[u8], start: usize) -> u32
         total += row.obligors.0 as u64;
         at += ROW;
         i += 1;
+    }
+    if total < 1 {
+        return NO_OBLIGORS;
     }
     if total <= OBLIGORS as u64 {
         0

@@ -2,39 +2,45 @@
 use Prim.Native.Nat.{ℕ}
 use mathlib.Core.Path.{_≡_, refl, sym, ap, _∙_}
 use mathlib.Core.Bool.{Bool, true, false}
-use mathlib.Core.List.{List}
+use mathlib.Core.List.{List, map}
 use native.Mathlib.Omega.{arith}
 use lib.Dec.{T}
 use Rattle.table.specs.Table.{Table, Every, Counted, Sound, survivors, survivorsIn}
 use Rattle.table.proofs.Every.{every-map}
-use Rattle.pooling.specs.Pool.{pool, pooledScale}
-use Rattle.pooling.specs.Private.{blockWords, blocksIn}
-use Rattle.pooling.proofs.Front.{pool-rising}
+use Rattle.pooling.specs.Pool.{asGrade, pooledScale}
+use Rattle.pooling.specs.Private.{spanning, blockWords, blocksIn}
 use Rattle.pooling.proofs.Joined.{pooled-totals}
+use Rattle.pooling.proofs.Scale.{scale-counted}
+use Rattle.pooling.proofs.Spanning.{spanning-scale, spanning-rising}
 use Rattle.pooling.proofs.Words.{blocks-back}
 use Rattle.cutoff.specs.Cutoff.{NoDearer, AtLeastAsGood}
 use Rattle.cutoff.specs.Verdict.{DearerAt, neverDearer, IsVerdict}
-use Rattle.cutoff.specs.Sweep.{Sweepable, Finds}
+use Rattle.cutoff.specs.Sweep.{scaleIn, Sweepable, Finds}
 use Rattle.cutoff.specs.declared.Dearer.{Dearer}
 use Rattle.cutoff.specs.declared.Dearer.the-variants.{At, Nowhere}
 use Rattle.cutoff.specs.declared.Price.{Price}
 use Rattle.cutoff.specs.declared.Verdict.{Verdict}
 use Rattle.cutoff.specs.declared.Verdict.the-variants.{Equal, First, Second, Crossing}
 use Rattle.cutoff.proofs.Cost.{cheapest-is}
-use Rattle.cutoff.proofs.Pooled.{pool-counted, pooled-costs-same}
+use Rattle.cutoff.proofs.Pooled.{pooled-costs-same}
 use Rattle.cutoff.proofs.Dominance.{break-even-decides}
 use Rattle.cutoff.proofs.Settled.{never-dearer}
 
--- The blocks of a sound table can be searched.
-pub sweepable : (t : Table) (w : List ℕ) → Sound t → w ≡ blockWords (pool t) → Sweepable w
-sweepable t w sound e =
-    let back : blocksIn w ≡ pool t = ap blocksIn e ∙ blocks-back (pool t) in
-    record {
-      exact = rw back e;
-      rising = rw back (pool-rising t);
-      counted = rw back (pool-counted t (sound .counted));
-      total = rw back (omega (arith, pooled-totals t, sound .total));
-    }
+-- The blocks of a sound table, as the code holds them, are its pooled scale and can be searched.
+module _ (t : Table) (w : List ℕ) (e : w ≡ blockWords (spanning t)) where
+  back : blocksIn w ≡ spanning t
+  back = ap blocksIn e ∙ blocks-back (spanning t)
+
+  pub held-scale : scaleIn w ≡ pooledScale t
+  held-scale = ap (map asGrade) back ∙ spanning-scale t
+
+  pub sweepable : Sound t → Sweepable w
+  sweepable sound = record {
+    exact = rw back e;
+    rising = rw back (spanning-rising t);
+    counted = rw held-scale (scale-counted t (sound .counted));
+    total = rw held-scale (omega (arith, pooled-totals t (sound .counted), sound .total));
+  }
 
 true-is : (x : Bool) → T x → true ≡ x
 true-is true h = refl

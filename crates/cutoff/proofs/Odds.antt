@@ -6,14 +6,15 @@ use mathlib.Core.List.{List, [], _∷_, map}
 use native.Mathlib.Nat.{mul-le-mul-left, mul-le-mul-right, le-of-mul-le-mul-left, lt-of-mul-lt-mul-left}
 use native.Mathlib.Omega.{arith}
 use native.Mathlib.Decide.{decLe}
-use Rattle.table.specs.Table.{Table, Grade, Every, Counted, survivors, survivorsIn}
+use Rattle.table.specs.Table.{Table, Grade, Every, Counted, occupied, survivors, survivorsIn}
 use Rattle.table.proofs.Arithmetic.{factor-pos}
 use Rattle.table.proofs.Every.{every-map}
 use Rattle.pooling.specs.declared.Block.{Block}
-use Rattle.pooling.specs.Pool.{Rising, pool, asGrade, pooledScale}
+use Rattle.pooling.specs.Pool.{Rising, blocks, asGrade, pooledScale}
 use Rattle.pooling.proofs.Front.{pool-rising}
+use Rattle.pooling.proofs.Scale.{scale-counted}
 use Rattle.cutoff.proofs.Cost.{cheapestCost, cost-cons, cost-le-all}
-use Rattle.cutoff.proofs.Pooled.{pool-counted, pool-alike, odds-as-rates}
+use Rattle.cutoff.proofs.Pooled.{pool-alike, odds-as-rates}
 
 -- the odds of default of r, defaults to survivors, are below those of s
 abbrev pub OddsBelow : Grade → Grade → Type 0
@@ -57,7 +58,7 @@ rising-odds (b ∷ c ∷ bs) rising counted =
     ((first, every-map (λ s. odds-trans _ _ _ _ (s .defaults) (survivors s) first) (map asGrade bs) (rest .0)), rest)
 
 pub pool-odds : (t : Table) → Every Counted t → OddsRise (pooledScale t)
-pool-odds t h = rising-odds (pool t) (pool-rising t) (pool-counted t h)
+pool-odds t h = rising-odds (blocks t) (pool-rising (occupied t)) (scale-counted t h)
 
 -- Grade by grade.
 

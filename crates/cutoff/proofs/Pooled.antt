@@ -1,4 +1,4 @@
--- Pooling keeps the survivors of a table and, at every pair of prices, its cheapest cost.
+-- Leaving the empty grades out, and pooling the others, keeps the survivors of a table and, at every pair of prices, its cheapest cost.
 use Prim.Native.Nat.{ℕ, _+_, _*_, _≤_, _<_}
 use mathlib.Core.Path.{_≡_, refl, sym, _∙_}
 use mathlib.Core.List.{List, [], _∷_, map}
@@ -6,18 +6,16 @@ use mathlib.Core.Logic.{_↔_, _⊎_, inl, inr, ⊎-elim}
 use native.Mathlib.Nat.{mul-sub, mul-le-mul-left, mul-le-mul-right, le-of-mul-le-mul-left, lt-of-not-le}
 use native.Mathlib.Omega.{arith}
 use native.Mathlib.Decide.{decLe}
-use Rattle.table.specs.Table.{Table, Grade, Every, Counted, survivors, survivorsIn}
+use Rattle.table.specs.Table.{Table, Grade, Every, Counted, occupied, survivors, survivorsIn}
 use Rattle.table.proofs.Arithmetic.{factor-pos}
 use Rattle.table.proofs.Every.{map-every}
+use Rattle.table.proofs.Occupied.{by-grade, every-occupied}
 use Rattle.pooling.specs.declared.Block.{Block}
 use Rattle.pooling.specs.Pool.{single, join, front, pool, asGrade, pooledScale}
-use Rattle.pooling.proofs.Front.{front-cases, pool-every, AtMostRate}
+use Rattle.pooling.proofs.Front.{front-cases, AtMostRate}
+use Rattle.pooling.proofs.Joined.{blocks-counted}
 use Rattle.cutoff.specs.Cutoff.{IsCheapest}
 use Rattle.cutoff.proofs.Cost.{cheapestCost, cost-cons, cost-le-all, is-cheapest}
-
--- No block has more defaults than obligors if no grade has.
-pub pool-counted : (t : Table) → Every Counted t → Every Counted (pooledScale t)
-pool-counted t h = map-every Counted asGrade (pool t) (pool-every (λ b. Counted (asGrade b)) (λ b c p q. omega arith) t h)
 
 -- Two tables with as many survivors and, at every pair of prices, the same cheapest cost.
 pub record Alike (t t′ : Table) : Type 0 where
@@ -30,14 +28,32 @@ alike-refl t = record { same-survivors = refl; same-cost = λ u v. refl }
 alike-trans : {t t′ t″ : Table} → Alike t t′ → Alike t′ t″ → Alike t t″
 alike-trans p q = record { same-survivors = cc; same-cost = λ u v. p .same-cost u v ∙ q .same-cost u v }
 
--- A grade's announced rate plays no part.
-alike-cons : (r : Grade) {t t′ : Table} → Alike t t′ → Alike (asGrade (single r) ∷ t) (r ∷ t′)
+-- A grade in front of both: its announced rate plays no part.
+alike-cons : (r r′ : Grade) {t t′ : Table} → r .obligors ≡ r′ .obligors → r .defaults ≡ r′ .defaults → Alike t t′ → Alike (r ∷ t) (r′ ∷ t′)
 unfolding survivorsIn
-alike-cons r {t} {t′} a =
+alike-cons r r′ {t} {t′} n d a =
     record {
-      same-survivors = rw (a .same-survivors);
-      same-cost = λ u v. rw (cost-cons (asGrade (single r)) t u v, cost-cons r t′ u v, a .same-survivors, a .same-cost u v);
+      same-survivors = rw (n, d, a .same-survivors);
+      same-cost = λ u v. rw (cost-cons r t u v, cost-cons r′ t′ u v, n, d, a .same-survivors, a .same-cost u v);
     }
+
+-- Without the empty grades: turned away or not, they cost nothing.
+
+alike-empty : (r : Grade) (t : Table) → Counted r → r .obligors ≡ 0 → Alike t (r ∷ t)
+unfolding survivorsIn
+alike-empty r t c e =
+    let d : r .defaults ≡ 0 = omega arith in
+    let s : survivors r + survivorsIn t ≡ survivorsIn t = omega arith in
+    record { same-survivors = sym s; same-cost = λ u v. rw (cost-cons r t u v, s, d) (omega (arith, cost-le-all t u v)) }
+
+occupied-alike : (t : Table) → Every Counted t → Alike (occupied t) t
+unfolding occupied
+occupied-alike [] h = alike-refl _
+occupied-alike (r ∷ t) h =
+    let rest = occupied-alike t (h .1) in
+    by-grade (λ (x : Table). Alike x (r ∷ t)) r (λ _. alike-cons r r refl refl rest) (λ e. alike-trans rest (alike-empty r t (h .0) e))
+
+-- Pooled.
 
 -- Of two grades of d and d′ defaults, s and s′ survivors, the first is no better: turning it away does not lose, or accepting the
 -- second does not.
@@ -87,11 +103,15 @@ front-alike b (c ∷ bs) p h =
     (λ _. alike-refl _)
     (λ k. alike-trans (front-alike (join b c) bs (omega arith) (h .1)) (alike-join b c (map asGrade bs) p (h .0) k))
 
-pub pool-alike : (t : Table) → Every Counted t → Alike (pooledScale t) t
+joined-alike : (t : Table) → Every Counted t → Alike (map asGrade (pool t)) t
 unfolding pool
-pool-alike [] h = alike-refl _
-pool-alike (r ∷ t) h =
-    alike-trans (front-alike (single r) (pool t) (h .0) (pool-counted t (h .1))) (alike-cons r (pool-alike t (h .1)))
+joined-alike [] h = alike-refl _
+joined-alike (r ∷ t) h =
+    alike-trans (front-alike (single r) (pool t) (h .0) (map-every Counted asGrade (pool t) (blocks-counted t (h .1))))
+    (alike-cons (asGrade (single r)) r refl refl (joined-alike t (h .1)))
+
+pub pool-alike : (t : Table) → Every Counted t → Alike (pooledScale t) t
+pool-alike t h = alike-trans (joined-alike (occupied t) (every-occupied Counted t h)) (occupied-alike t h)
 
 pub pooled-costs-same : (t : Table) → Every Counted t → (u v c : ℕ) → IsCheapest (pooledScale t) u v c ↔ IsCheapest t u v c
 pooled-costs-same t h u v c =

@@ -1,10 +1,11 @@
--- What accepted calls on a sound desk do: pool writes the monotone regression, measures has a mixed table, what write leaves is loaded
--- again, and a book whose tables are loaded is written again.
-use Prim.Native.Nat.{ℕ, _-_, _≤_}
+-- What accepted calls on a sound desk do: pool writes the monotone regression and repeats it for empty grades, measures has a mixed table, what
+-- write leaves is loaded again, and a book whose tables are loaded is written again.
+use Prim.Native.Nat.{ℕ, _-_, _≤_, _<_}
 use mathlib.Core.Path.{_≡_, refl, sym, ap, _∙_}
 use mathlib.Core.List.{List, [], _++_}
 use lib.ListN.{length, take, drop, getD}
-use Rattle.table.specs.Table.{Every}
+use Rattle.table.specs.Table.{Every, occupied}
+use Rattle.table.proofs.Occupied.{all-occupied}
 use Rattle.table.proofs.Words.{sound-loaded}
 use Rattle.book.specs.Bytes.{Byte}
 use Rattle.book.specs.Layout.{raters, startOf, kindAt, layoutFault}
@@ -15,9 +16,11 @@ use Rattle.book.proofs.Checks.{held, held-first}
 use Rattle.book.proofs.Books.{length-encode}
 use Rattle.book.proofs.RoundTrip.{round-trip}
 use Rattle.book.proofs.Again.{written-again}
-use Rattle.pooling.specs.Numbers.{ratesWritten}
+use Rattle.pooling.specs.Numbers.{ratesAtOccupied}
 use Rattle.pooling.specs.Regression.{IsRegression}
+use Rattle.pooling.specs.Claims.{OccupiedAt, EmptyAt, numbersAt}
 use Rattle.pooling.proofs.LeastSquares.{pooled-regression}
+use Rattle.pooling.proofs.Repeating.{next-better, best-occupied}
 use Rattle.pooling.proofs.Written.{rates-written}
 use Rattle.measures.specs.Claims.{Mixed}
 use Rattle.calls.specs.Calls.{measures, questionFault, pool, fillFault}
@@ -30,11 +33,21 @@ use Rattle.demands.specs.History.{nothing, table, filled}
 -- Pool and measures.
 
 pub regression-written : (d : Desk) → SoundDesk d → (i : ℕ) (out : List ℕ) → numberOf d (fill i pool out) ≡ 0
-    → IsRegression (tableAt d i) (ratesWritten (length (tableAt d i)) (lentAfter d (fill i pool out)))
+    → IsRegression (occupied (tableAt d i)) (ratesAtOccupied (tableAt d i) (lentAfter d (fill i pool out)))
 unfolding fillFault
 regression-written d s i out e =
-    let f = held-first _ _ (held-first _ _ e .1) in
-    rw (e, rates-written (tableAt d i) out) (pooled-regression (tableAt d i) (table-sound d s i (f .0) .occupied))
+    let t = tableAt d i in
+    rw (e, rates-written t out) (pooled-regression (occupied t) (all-occupied t))
+
+pub next-better-written : (d : Desk) (p : ℕ) (out : List ℕ) → numberOf d (fill p pool out) ≡ 0
+    → (i j : ℕ) → j < i → OccupiedAt (tableAt d p) j → ((k : ℕ) → j < k → k ≤ i → EmptyAt (tableAt d p) k)
+    → numbersAt i (lentAfter d (fill p pool out)) ≡ numbersAt j (lentAfter d (fill p pool out))
+next-better-written d p out e i j l o h = rw e (next-better (tableAt d p) out i j l o h)
+
+pub best-written : (d : Desk) (p : ℕ) (out : List ℕ) → numberOf d (fill p pool out) ≡ 0
+    → (i j : ℕ) → i < j → OccupiedAt (tableAt d p) j → ((k : ℕ) → k < j → EmptyAt (tableAt d p) k)
+    → numbersAt i (lentAfter d (fill p pool out)) ≡ numbersAt j (lentAfter d (fill p pool out))
+best-written d p out e i j l o h = rw e (best-occupied (tableAt d p) out i j l o h)
 
 pub measured-mixed : (d : Desk) → SoundDesk d → (i : ℕ) → numberOf d (ask i measures) ≡ 0 → Mixed (tableAt d i)
 unfolding questionFault

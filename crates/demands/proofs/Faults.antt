@@ -1,5 +1,5 @@
 -- Every call ends in a result or one of its refusal numbers.
-use Prim.Native.Nat.{ℕ, zero, suc}
+use Prim.Native.Nat.{ℕ}
 use mathlib.Core.Path.{_≡_}
 use mathlib.Core.Logic.{_⊎_, inl, inr}
 use mathlib.Core.Bool.{Bool, true, false, _||_}
@@ -10,11 +10,11 @@ use Rattle.table.proofs.Test.{by-test}
 use Rattle.table.specs.Place.{tableOf}
 use Rattle.table.specs.declared.Place.{Place}
 use Rattle.book.specs.Checks.{Check, at-most, fault, firstFault}
-use Rattle.book.specs.Layout.{headChecks, raterChecks, tableChecks, tablesFaultFrom, firstStart, raters, endOf}
+use Rattle.book.specs.Layout.{headChecks, raterChecks, tableChecks, tablesFaultFrom, firstStart, raters}
 use Rattle.book.specs.Rows.{rowChecks, rowsFault, totalChecks, tableFault, tableOfRater}
 use Rattle.book.specs.Reading.{readFault}
 use Rattle.book.specs.Writing.{writeFault}
-use Rattle.book.proofs.Numbers.{allPass, fault-passes, first-passes, rows-pass}
+use Rattle.book.proofs.Numbers.{allPass, fault-passes, first-passes, rows-pass, tables-pass}
 use Rattle.calls.specs.Calls.{Question, cheapest, measures, brier, spread, questionChecks, questionFault, Filling, pool, fillSize, fillFault, Change, load, clear, changeFault, emptyFault, pairChecks, compareFault}
 use Rattle.desk.specs.declared.Desk.{Desk}
 use Rattle.desk.specs.Desk.{placeAt}
@@ -57,9 +57,8 @@ module _ (b : List ℕ) (j : ℕ) where
   readNumbers = 1 ∷ changeNumbers (load b j)
 
   known-tables : (k i at : ℕ) → Known readNumbers (tablesFaultFrom b k i at)
-  unfolding tablesFaultFrom tableChecks among allPass
-  known-tables zero i at = known-fault readNumbers _ tt
-  known-tables (suc k) i at = known-first readNumbers _ _ (known-fault readNumbers (tableChecks b i at) tt) (known-tables k (suc i) (endOf b at))
+  unfolding tableChecks among allPass
+  known-tables = tables-pass (isKnown readNumbers) b (λ i at. tt) tt
 
   known-rows : (t : Table) → Known readNumbers (rowsFault t)
   unfolding rowChecks among allPass

@@ -1,6 +1,6 @@
 pub mod History
 pub mod Faults
-pub mod WrongCuts
+pub mod Loads
 pub mod Kept
 pub mod Accepted
 pub mod Verdicts

@@ -5,7 +5,7 @@ use mathlib.Core.Bool.{Bool, true, false}
 use mathlib.Core.List.{[], _∷_}
 use native.Mathlib.Omega.{arith}
 use lib.Dec.{lit<, lit≤}
-use Rattle.table.specs.Table.{Table, survivorsIn, defaultsIn, obligorsIn}
+use Rattle.table.specs.Table.{Table, occupied, survivorsIn, defaultsIn, obligorsIn}
 use Rattle.table.specs.Place.{gradesFrom, placeOf}
 use Rattle.table.proofs.Placed.{table-placed}
 use Rattle.book.specs.Bytes.{twoAt, fourAt}
@@ -15,7 +15,7 @@ use Rattle.book.specs.Rows.{gradeIn, gradesIn, rowChecks, rowsFault, totalCheck
 use Rattle.book.specs.Reading.{readFault}
 use Rattle.pooling.specs.Pool.{front, pool}
 use Rattle.pooling.specs.Band.{bandFrom}
-use Rattle.pooling.specs.Numbers.{gradesOf, numbersOf}
+use Rattle.pooling.specs.Numbers.{gradesOf, numbersOf, repeating, pooledNumbers}
 use Rattle.pooling.specs.Regression.{ratesIn}
 use Rattle.cutoff.specs.Best.{best}
 use Rattle.cutoff.specs.Cutoff.{turnedAway, cost, cheapestOf}
@@ -27,16 +27,19 @@ use Rattle.cutoff.proofs.Cost.{cheapestCost, cheapest-is, is-cheapest}
 use Rattle.measures.specs.Pairs.{concordant, discordant, tied}
 use Rattle.measures.specs.Measures.{measuresOf}
 use Rattle.calls.specs.Answers.{Answer, accepted, refused}
-use Rattle.calls.specs.Calls.{load, compareFault, pairChecks}
-use Rattle.desk.specs.Calls.{change}
-use Rattle.demands.specs.History.{heldFrom, held, table}
+use Rattle.calls.specs.Calls.{load, changeFault, compareFault, pairChecks}
+use Rattle.desk.specs.Calls.{change, numberOf}
+use Rattle.demands.specs.History.{deskFrom, deskAfter, heldFrom, held, table}
 use Rattle.demands.specs.Worked as worked
-use Rattle.demands.specs.Worked.{bookK, tableK, five, fine, coarse, worstApart, bestApart, price, Between}
+use Rattle.demands.specs.Worked.{row, bookK, tableK, empty, bookOf, five, fine, coarse, worstApart, bestApart, price, Between}
 
--- Book K, as it stands in the bytes.
-read : held 1 (change 1 (load bookK 1) ∷ []) ≡ table tableK
-unfolding heldFrom readFault headChecks raterChecks tableChecks tablesFaultFrom gradeIn gradesIn rowChecks rowsFault totalChecks tableFault fault firstFault twoAt fourAt obligorsIn
-read = refl
+-- Books, as they stand in the bytes: K, and those of R-4's case line.
+read :
+    (held 1 (change 1 (load bookK 1) ∷ []) ≡ table tableK)
+    × (held 1 (change 1 (load (bookOf 10 2) 1) ∷ []) ≡ table (empty ∷ row 10 2 ∷ []))
+    × (numberOf (deskAfter []) (change 1 (load (bookOf 0 0) 1)) ≡ 9)
+unfolding deskFrom heldFrom changeFault readFault headChecks raterChecks tableChecks tablesFaultFrom gradeIn gradesIn rowChecks rowsFault totalChecks tableFault fault firstFault twoAt fourAt obligorsIn occupied
+read = (refl, refl, refl)
 
 -- Verdicts.
 
@@ -72,9 +75,9 @@ dearer t₁ t₂ p u v h = record {
 }
 
 pub Worked : worked.Worked
-unfolding pool front bandFrom gradesOf numbersOf ratesIn defaultsIn survivorsIn obligorsIn concordant discordant tied measuresOf turnedAway cost best cheapestOf all compareFault pairChecks fault firstFault placeOf gradesFrom
+unfolding pool front bandFrom gradesOf numbersOf occupied repeating pooledNumbers ratesIn defaultsIn survivorsIn obligorsIn concordant discordant tied measuresOf turnedAway cost best cheapestOf all compareFault pairChecks fault firstFault placeOf gradesFrom
 Worked = record {
-  a-read = read;
+  a-read = read .0;
   a-pooled = refl;
   a-gini = refl;
   b = refl;
@@ -112,4 +115,14 @@ Worked = record {
     first-dearer = λ p h. absurd h;
     second-dearer = λ p h. absurd h;
   };
+  k-loaded = read .1;
+  k-refused = read .2;
+  r4-best = refl;
+  r4-worst = refl;
+  r4-inside = refl;
+  r4-between = refl;
+  r4-bands = refl;
+  r4-scale = refl;
+  r4-cheapest = refl;
+  r4-pietra = refl;
 }

@@ -1,21 +1,22 @@
 -- The customer's three demands, each sentence by a name, over all calls and all lists of calls from a fresh desk.
 -- The contract of `demands` in src/lib.rt is all of them, so that the crate is refused where one is not proved.
-use Prim.Native.Nat.{ℕ, _-_, _≤_}
+use Prim.Native.Nat.{ℕ, _-_, _≤_, _<_}
 use mathlib.Core.Path.{_≡_}
 use mathlib.Core.Bool.{false}
 use mathlib.Core.Logic.{_⊎_}
 use mathlib.Core.List.{List, [], _∷_, _++_}
 use lib.ListN.{length, drop, take, getD}
-use Rattle.table.specs.Table.{Table, Every, Sound, defaultsIn, survivorsIn}
+use Rattle.table.specs.Table.{Table, Every, Sound, occupied, defaultsIn, survivorsIn}
 use Rattle.book.specs.Bytes.{Byte}
 use Rattle.book.specs.Checks.{fault}
 use Rattle.book.specs.Layout.{raters, startOf, kindAt, headChecks, layoutFault}
 use Rattle.book.specs.WrongCut.{WrongCut}
-use Rattle.book.specs.Rows.{tablesIn}
+use Rattle.book.specs.Rows.{tableOfRater, tablesIn}
 use Rattle.book.specs.Encode.{bookSize}
 use Rattle.book.specs.Claims as book
-use Rattle.pooling.specs.Numbers.{ratesWritten}
+use Rattle.pooling.specs.Numbers.{ratesAtOccupied}
 use Rattle.pooling.specs.Regression.{IsRegression}
+use Rattle.pooling.specs.Claims.{OccupiedAt, EmptyAt, numbersAt}
 use Rattle.cutoff.specs.Verdict.{Settles}
 use Rattle.cutoff.specs.declared.Verdict.{Verdict}
 use Rattle.cutoff.specs.Claims as cutoff
@@ -66,6 +67,17 @@ LoadMeansWrongCuts = (d : Desk) (i j n : ℕ) (b : List ℕ) → 31 ≤ n → nu
 -- R-2: "5 is never given again."
 abbrev pub FiveIsNeverGiven : Type 0
 FiveIsNeverGiven = (d : Desk) (c : Call) → numberOf d c ≡ 5 → ⊥
+
+-- R-4, of load into an empty place: "n 0 loads if another grade is occupied", as every table does of a book that is laid out;
+abbrev pub LoadTakesSoundTables : Type 0
+LoadTakesSoundTables =
+    (d : Desk) (i j : ℕ) (b : List ℕ) → 1 ≤ i → i ≤ 2 → placeAt d i .loaded ≡ false
+    → layoutFault b ≡ 0 → 1 ≤ j → j ≤ raters b → Sound (tableOfRater b j) → numberOf d (change i (load b j)) ≡ 0
+
+-- and of any load, 9 "means that all grades are empty".
+abbrev pub LoadMeansAllEmpty : Type 0
+LoadMeansAllEmpty =
+    (d : Desk) (i j : ℕ) (b : List ℕ) → numberOf d (change i (load b j)) ≡ 9 → occupied (tableOfRater b j) ≡ []
 
 -- "22: place empty": an accepted question is of a table, and of one as document 01 says.
 abbrev pub QuestionsAreOfTables : Type 0
@@ -122,11 +134,26 @@ MeasuredTablesAreMixed =
     (d : Desk) → SoundDesk d → (i : ℕ) → numberOf d (ask i measures) ≡ 0 → measuring.Mixed (tableAt d i)
 
 -- "Pooled rates are the monotone regression: of all never-falling lists of fractions that one ALONE has the smallest obligor-weighted
--- squared error." Of the rates that an accepted pool writes.
+-- squared error." Of the rates that an accepted pool writes. R-4: "The smallest squared error and its uniqueness concern the occupied grades."
 abbrev pub PoolWritesTheRegression : Type 0
 PoolWritesTheRegression =
     (d : Desk) → SoundDesk d → (i : ℕ) (out : List ℕ) → numberOf d (fill i pool out) ≡ 0
-    → IsRegression (tableAt d i) (ratesWritten (length (tableAt d i)) (lentAfter d (fill i pool out)))
+    → IsRegression (occupied (tableAt d i)) (ratesAtOccupied (tableAt d i) (lentAfter d (fill i pool out)))
+
+-- R-4: "Pool repeats for it the three numbers of the next better occupied grade": in what an accepted pool leaves, of grade i, where j is
+-- occupied and all from there to i are empty;
+abbrev pub PoolRepeatsTheNextBetter : Type 0
+PoolRepeatsTheNextBetter =
+    (d : Desk) (p : ℕ) (out : List ℕ) → numberOf d (fill p pool out) ≡ 0
+    → (i j : ℕ) → j < i → OccupiedAt (tableAt d p) j → ((k : ℕ) → j < k → k ≤ i → EmptyAt (tableAt d p) k)
+    → numbersAt i (lentAfter d (fill p pool out)) ≡ numbersAt j (lentAfter d (fill p pool out))
+
+-- "or of the best occupied grade if none is better".
+abbrev pub PoolRepeatsTheBest : Type 0
+PoolRepeatsTheBest =
+    (d : Desk) (p : ℕ) (out : List ℕ) → numberOf d (fill p pool out) ≡ 0
+    → (i j : ℕ) → i < j → OccupiedAt (tableAt d p) j → ((k : ℕ) → k < j → EmptyAt (tableAt d p) k)
+    → numbersAt i (lentAfter d (fill p pool out)) ≡ numbersAt j (lentAfter d (fill p pool out))
 
 -- Demand 3.
 
@@ -161,6 +188,8 @@ pub record Demands : Type 0 where
   pub load-tells-wrong-cuts : LoadTellsWrongCuts
   pub load-means-wrong-cuts : LoadMeansWrongCuts
   pub five-is-never-given : FiveIsNeverGiven
+  pub load-takes-sound-tables : LoadTakesSoundTables
+  pub load-means-all-empty : LoadMeansAllEmpty
   pub questions-are-of-tables : QuestionsAreOfTables
   pub refusals-change-nothing : RefusalsChangeNothing
   pub only-what-is-written-changes : OnlyWhatIsWrittenChanges
@@ -171,6 +200,8 @@ pub record Demands : Type 0 where
   pub measures-are-published : MeasuresArePublished
   pub measured-tables-are-mixed : MeasuredTablesAreMixed
   pub pool-writes-the-regression : PoolWritesTheRegression
+  pub pool-repeats-the-next-better : PoolRepeatsTheNextBetter
+  pub pool-repeats-the-best : PoolRepeatsTheBest
   pub compare-is-right : CompareIsRight
   pub every-table-has-one-cheapest-cost : EveryTableHasOneCheapestCost
   pub pooling-keeps-the-cheapest-cost : PoolingKeepsTheCheapestCost

@@ -6,9 +6,10 @@ use lib.IntN.{pos, negsuc}
 use Rattle.table.specs.Table.{Table, Grade}
 use Rattle.table.specs.Place.{placeOf}
 use Rattle.pooling.specs.Fraction.{ratio}
+use Rattle.pooling.specs.Pool.{pooledScale}
 use Rattle.pooling.specs.Numbers.{pooledInto}
 use Rattle.pooling.specs.Regression.{pooledRates}
-use Rattle.cutoff.specs.Cutoff.{IsCheapest}
+use Rattle.cutoff.specs.Cutoff.{IsCheapest, cheapestOf}
 use Rattle.cutoff.specs.declared.Price.{Price}
 use Rattle.cutoff.specs.declared.Verdict.{Verdict}
 use Rattle.cutoff.specs.declared.Verdict.the-variants.{Equal, First, Crossing}
@@ -16,8 +17,8 @@ use Rattle.measures.specs.Pairs.{concordant, discordant, tied}
 use Rattle.measures.specs.Measures.{height, measuresOf}
 use Rattle.calls.specs.Answers.{Answer, accepted}
 use Rattle.calls.specs.Calls.{load, Compared}
-use Rattle.desk.specs.Calls.{change}
-use Rattle.demands.specs.History.{held, table}
+use Rattle.desk.specs.Calls.{change, numberOf}
+use Rattle.demands.specs.History.{deskAfter, held, table}
 
 -- "Rows are (n, d)": what a grade announces plays no part, save in book K.
 abbrev pub row : ℕ → ℕ → Grade
@@ -37,6 +38,18 @@ tableK =
     record { obligors = 10; defaults = 2; announced = 100_000 }
     ∷ record { obligors = 10; defaults = 1; announced = 150_000 }
     ∷ record { obligors = 20; defaults = 4; announced = 200_000 }
+    ∷ []
+
+-- R-4: a grade without obligors
+abbrev pub empty : Grade
+empty = row 0 0
+
+-- a book of one table: an empty grade, and one of n obligors, d of whom defaulted
+abbrev pub bookOf : ℕ → ℕ → List ℕ
+bookOf n d =
+    1 ∷ 0 ∷ 34 ∷ 0 ∷ 6 ∷ 0 ∷ 2 ∷ 0 ∷ 0 ∷ 0
+    ∷ 0 ∷ 0 ∷ 0 ∷ 0 ∷ 0 ∷ 0 ∷ 0 ∷ 0 ∷ 0 ∷ 0 ∷ 0 ∷ 0
+    ∷ n ∷ 0 ∷ 0 ∷ 0 ∷ d ∷ 0 ∷ 0 ∷ 0 ∷ 0 ∷ 0 ∷ 0 ∷ 0
     ∷ []
 
 -- the table of document 002
@@ -115,3 +128,16 @@ pub record Worked : Type 0 where
   -- Equal
   pub i : (r : Answer Verdict) → Between five five r → r ≡ accepted Equal
   pub i-shown : Between five five (accepted Equal)
+  -- R-4: "n 0 loads if another grade is occupied"; all grades empty is 9
+  pub k-loaded : held 1 (change 1 (load (bookOf 10 2) 1) ∷ []) ≡ table (empty ∷ row 10 2 ∷ [])
+  pub k-refused : numberOf (deskAfter []) (change 1 (load (bookOf 0 0) 1)) ≡ 9
+  -- R-4, K with an empty grade: the best, the worst, inside the first block, between the two; two blocks of different bands; K with all of these
+  pub r4-best : pooledInto (empty ∷ row 10 2 ∷ row 10 1 ∷ row 20 4 ∷ []) [] ≡ 3 ∷ 20 ∷ 11 ∷ 3 ∷ 20 ∷ 11 ∷ 3 ∷ 20 ∷ 11 ∷ 4 ∷ 20 ∷ 11 ∷ []
+  pub r4-worst : pooledInto (row 10 2 ∷ row 10 1 ∷ row 20 4 ∷ empty ∷ []) [] ≡ 3 ∷ 20 ∷ 11 ∷ 3 ∷ 20 ∷ 11 ∷ 4 ∷ 20 ∷ 11 ∷ 4 ∷ 20 ∷ 11 ∷ []
+  pub r4-inside : pooledInto (row 10 2 ∷ empty ∷ row 10 1 ∷ row 20 4 ∷ []) [] ≡ 3 ∷ 20 ∷ 11 ∷ 3 ∷ 20 ∷ 11 ∷ 3 ∷ 20 ∷ 11 ∷ 4 ∷ 20 ∷ 11 ∷ []
+  pub r4-between : pooledInto (row 10 2 ∷ row 10 1 ∷ empty ∷ row 20 4 ∷ []) [] ≡ 3 ∷ 20 ∷ 11 ∷ 3 ∷ 20 ∷ 11 ∷ 3 ∷ 20 ∷ 11 ∷ 4 ∷ 20 ∷ 11 ∷ []
+  pub r4-bands : pooledInto (row 100 1 ∷ empty ∷ row 10 1 ∷ []) [] ≡ 1 ∷ 100 ∷ 7 ∷ 1 ∷ 100 ∷ 7 ∷ 1 ∷ 10 ∷ 10 ∷ []
+  pub r4-scale : pooledScale (empty ∷ row 10 2 ∷ empty ∷ row 10 1 ∷ empty ∷ row 20 4 ∷ empty ∷ []) ≡ row 20 3 ∷ row 20 4 ∷ []
+  -- "Cutoffs still number all grades": the worst two are turned away, one of them empty, and Pietra's is behind the empty one too.
+  pub r4-cheapest : cheapestOf (row 10 0 ∷ row 10 10 ∷ empty ∷ []) 1 1 ≡ record { cutoff = 2; cost = 0 }
+  pub r4-pietra : measuresOf (row 10 0 ∷ row 10 10 ∷ empty ∷ []) .cutoff ≡ 2

@@ -3,6 +3,7 @@ use Rattle.measures.specs.Claims.{Claims}
 use Rattle.measures.proofs.Listed.{obligors-are-listed}
 use Rattle.measures.proofs.Counted.{obligors-are-counted, pairs-are-counted}
 use Rattle.measures.proofs.Pairs.{every-pair}
+use Rattle.measures.proofs.Empty.{no-pairs, no-score}
 use Rattle.measures.proofs.Curves.{roc-is-area, cap-is-area, gini-is-ratio, gini-is-difference, roc-is-half}
 use Rattle.measures.proofs.Pietra.{pietra-is-largest, smaller-is-nearer}
 use Rattle.measures.proofs.Outcomes.{brier-is-mean}
@@ -14,6 +15,8 @@ claimed = record {
   obligors-are-counted = obligors-are-counted;
   pairs-are-counted = pairs-are-counted;
   every-pair-is-counted = every-pair;
+  empty-grades-make-no-pairs = no-pairs;
+  empty-grades-add-no-score = no-score;
   roc-is-the-area = roc-is-area;
   cap-is-the-area = cap-is-area;
   gini-is-the-ratio-of-areas = gini-is-ratio;

@@ -2,6 +2,7 @@ pub mod Signed
 pub mod Fractions
 pub mod Cutoffs
 pub mod Pairs
+pub mod Empty
 pub mod Counted
 pub mod Listed
 pub mod Sizes

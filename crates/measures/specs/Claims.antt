@@ -4,7 +4,7 @@ use Prim.Native.Nat.{ℕ, _+_, _≤_, _<_}
 use mathlib.Core.Path.{_≡_}
 use mathlib.Core.Bool.{Bool, not}
 use lib.ListN.{length}
-use Rattle.table.specs.Table.{Table, Every, Counted, Rated, defaultsIn, survivorsIn, obligorsIn}
+use Rattle.table.specs.Table.{Table, Every, Counted, Rated, occupied, defaultsIn, survivorsIn, obligorsIn}
 use Rattle.pooling.specs.Fraction.{Proper, AtMost, Equal, ratio, sum, difference, product}
 use Rattle.measures.specs.Pairs.{number, obligorsOf, IsListOf, Pair, pairsAmong, isConcordant, isDiscordant, isTied}
 use Rattle.measures.specs.Pairs.{concordant, discordant, tied}
@@ -43,6 +43,16 @@ PairsAreCounted =
 -- Every pair of a defaulted and a surviving obligor is concordant, discordant or tied.
 abbrev pub EveryPairIsCounted : Type 0
 EveryPairIsCounted = (t : Table) → concordant t + discordant t + tied t ≡ pairs t
+
+-- R-4: "An empty grade adds nothing to any count": C, X and T are those of the occupied grades alone,
+abbrev pub EmptyGradesMakeNoPairs : Type 0
+EmptyGradesMakeNoPairs =
+    (t : Table) → Every Counted t
+    → (concordant (occupied t) ≡ concordant t) × (discordant (occupied t) ≡ discordant t) × (tied (occupied t) ≡ tied t)
+
+-- and so is the Brier score, whatever rate an empty grade announces.
+abbrev pub EmptyGradesAddNoScore : Type 0
+EmptyGradesAddNoScore = (t : Table) → Every Counted t → brierOf (occupied t) ≡ brierOf t
 
 -- ROC is the area under the receiver operating characteristic.
 abbrev pub RocIsTheArea : Type 0
@@ -122,6 +132,8 @@ pub record Claims : Type 0 where
   pub obligors-are-counted : ObligorsAreCounted
   pub pairs-are-counted : PairsAreCounted
   pub every-pair-is-counted : EveryPairIsCounted
+  pub empty-grades-make-no-pairs : EmptyGradesMakeNoPairs
+  pub empty-grades-add-no-score : EmptyGradesAddNoScore
   pub roc-is-the-area : RocIsTheArea
   pub cap-is-the-area : CapIsTheArea
   pub gini-is-the-ratio-of-areas : GiniIsTheRatioOfAreas

@@ -1,19 +1,16 @@
 -- Joining keeps the counts: the blocks hold all grades, obligors and defaults of the table, and are occupied and counted as its grades are.
 use Prim.Native.Nat.{ℕ, zero, suc, _≤_}
-use mathlib.Core.Path.{_≡_, refl, ap, sym, _∙_}
+use mathlib.Core.Path.{_≡_, refl, ap, _∙_}
 use mathlib.Core.List.{List, [], _∷_, map}
 use native.Mathlib.Nat.{add-assoc}
 use native.Mathlib.Numerals.{one-add}
 use native.Mathlib.Omega.{arith}
 use lib.ListN.{length, drop}
-use Rattle.table.specs.Table.{Table, Every, Occupied, Counted, defaultsIn, obligorsIn}
-use Rattle.pooling.specs.Pool.{Block, single, join, front, pool, asGrade, pooledScale, blockOf}
+use Rattle.table.specs.Table.{Table, Every, Occupied, Counted, occupied, defaultsIn, obligorsIn}
+use Rattle.table.proofs.Occupied.{same-counts}
+use Rattle.pooling.specs.Pool.{Block, single, join, front, pool, blocks, asGrade, pooledScale, blockOf}
+use Rattle.pooling.specs.Private.{sumOf}
 use Rattle.pooling.proofs.Front.{front-cases, pool-every}
-
--- all of some blocks as one
-unfoldable pub sumOf : List Block → Block
-sumOf [] = record { grades = 0; obligors = 0; defaults = 0 }
-sumOf (b ∷ bs) = join b (sumOf bs)
 
 join-assoc : (a b c : Block) → join (join a b) c ≡ join a (join b c)
 join-assoc a b c = simp add-assoc
@@ -34,10 +31,6 @@ sum-pool (r ∷ t) = sum-front (single r) (pool t) ∙ rw (sum-pool t, one-add)
 pub grades-count : (t : Table) → sumOf (pool t) .grades ≡ length t
 grades-count t = ap (λ b. b .grades) (sum-pool t)
 
--- A block before others that pools a table holds, with them, all of the table.
-pub sum-all : (b : Block) (bs : List Block) (t : Table) → front b bs ≡ pool t → join b (sumOf bs) ≡ blockOf t
-sum-all b bs t e = sym (sum-front b bs) ∙ ap sumOf e ∙ sum-pool t
-
 -- Some of the blocks have no more grades than all.
 pub grades-drop : (bs : List Block) (m : ℕ) → sumOf (drop m bs) .grades ≤ sumOf bs .grades
 unfolding sumOf
@@ -52,11 +45,12 @@ unfolding sumOf obligorsIn defaultsIn
 scale-totals [] = (refl, refl)
 scale-totals (b ∷ bs) = let (n, d) = scale-totals bs in (rw n, rw d)
 
-pub pooled-totals : (t : Table) → (obligorsIn (pooledScale t) ≡ obligorsIn t) × (defaultsIn (pooledScale t) ≡ defaultsIn t)
-pooled-totals t =
-    let (n, d) = scale-totals (pool t) in
-    let e = sum-pool t in
-    (n ∙ ap (λ b. b .obligors) e, d ∙ ap (λ b. b .defaults) e)
+pub pooled-totals : (t : Table) → Every Counted t → (obligorsIn (pooledScale t) ≡ obligorsIn t) × (defaultsIn (pooledScale t) ≡ defaultsIn t)
+pooled-totals t counted =
+    let (n, d) = scale-totals (blocks t) in
+    let e = sum-pool (occupied t) in
+    let same = same-counts t counted in
+    (n ∙ ap (λ b. b .obligors) e ∙ same .obligors, d ∙ ap (λ b. b .defaults) e ∙ same .defaults)
 
 -- Every block.
 

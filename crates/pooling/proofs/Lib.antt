@@ -1,6 +1,7 @@
 pub mod Front
 pub mod Joined
 pub mod Scale
+pub mod Spanning
 pub mod Runs
 pub mod Scaled
 pub mod Pooled
@@ -11,6 +12,7 @@ pub mod LeastSquares
 pub mod Determined
 pub mod Bands
 pub mod Limits
+pub mod Repeating
 pub mod Written
 pub mod Words
 pub mod Backwards

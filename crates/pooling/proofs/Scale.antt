@@ -1,15 +1,16 @@
--- The pooled scale of a table is a table.
+-- The pooled scale of a table is a table without empty grades.
 use Prim.Native.Nat.{suc, _≤_}
 use mathlib.Core.List.{List, [], _∷_}
 use native.Mathlib.Omega.{arith}
 use lib.ListN.{length, length-map}
-use Rattle.table.specs.Table.{Table, Occupied, Counted, Rated, Sound}
+use Rattle.table.specs.Table.{Table, Every, Occupied, Counted, Rated, Sound, occupied}
 use Rattle.table.proofs.Every.{every, map-every}
-use Rattle.pooling.specs.Pool.{Block, single, join, front, pool, asGrade, pooledScale}
+use Rattle.table.proofs.Occupied.{all-occupied, every-occupied, none-empty, occupied-few}
+use Rattle.pooling.specs.Pool.{Block, single, join, front, pool, blocks, asGrade, pooledScale}
 use Rattle.pooling.proofs.Front.{front-cases}
 use Rattle.pooling.proofs.Joined.{pooled-totals, blocks-occupied, blocks-counted}
 
-front-length : (b : Block) (bs : List Block) → (1 ≤ length (front b bs)) × (length (front b bs) ≤ suc (length bs))
+pub front-length : (b : Block) (bs : List Block) → (1 ≤ length (front b bs)) × (length (front b bs) ≤ suc (length bs))
 unfolding front
 front-length b [] = omega arith
 front-length b (c ∷ bs) =
@@ -22,17 +23,25 @@ unfolding pool
 pool-few [] = omega arith
 pool-few (r ∷ t) = omega (arith, pool-few t, front-length (single r) (pool t))
 
-pool-some : (t : Table) → 1 ≤ length t → 1 ≤ length (pool t)
+pub pool-some : (t : Table) → 1 ≤ length t → 1 ≤ length (pool t)
 unfolding pool
 pool-some [] h = h
 pool-some (r ∷ t) h = front-length (single r) (pool t) .0
 
+pub scale-occupied : (t : Table) → Every Occupied (pooledScale t)
+scale-occupied t = map-every Occupied asGrade (blocks t) (blocks-occupied (occupied t) (all-occupied t))
+
+pub scale-counted : (t : Table) → Every Counted t → Every Counted (pooledScale t)
+scale-counted t h = map-every Counted asGrade (blocks t) (blocks-counted (occupied t) (every-occupied Counted t h))
+
 pub pooled-sound : (t : Table) → Sound t → Sound (pooledScale t)
-pooled-sound t sound = record {
-  some = rw length-map (pool-some t (sound .some));
-  few = rw length-map (omega (arith, pool-few t, sound .few));
-  occupied = map-every Occupied asGrade (pool t) (blocks-occupied t (sound .occupied));
-  counted = map-every Counted asGrade (pool t) (blocks-counted t (sound .counted));
-  rated = map-every Rated asGrade (pool t) (every (λ b. omega arith) (pool t));
-  total = rw (pooled-totals t .0) (sound .total);
-}
+pooled-sound t sound =
+    let some : 1 ≤ length (pooledScale t) = rw length-map (pool-some (occupied t) (sound .some-occupied)) in
+    record {
+      some = some;
+      few = rw length-map (omega (arith, pool-few (occupied t), occupied-few t, sound .few));
+      some-occupied = rw (none-empty (pooledScale t) (scale-occupied t)) some;
+      counted = scale-counted t (sound .counted);
+      rated = map-every Rated asGrade (blocks t) (every (λ b. omega arith) (blocks t));
+      total = rw (pooled-totals t (sound .counted) .0) (sound .total);
+    }

@@ -5,10 +5,10 @@ use mathlib.Core.List.{List, [], _∷_, _++_}
 use native.Mathlib.Nat.{add-zero}
 use native.Mathlib.Numerals.{add-one}
 use native.Mathlib.Omega.{arith}
-use lib.ListN.{length, getD, take, drop, length-drop}
-use lib.Seq.{take-all, take-suc, drop-cons, drop-drop, getD-drop}
+use lib.ListN.{length, getD, set, take, drop, length-drop}
+use lib.Seq.{take-all, take-suc, drop-cons, drop-drop, drop-set-add, getD-drop}
 use Rattle.pooling.specs.Pool.{Block}
-use Rattle.pooling.specs.Private.{blockWords, blockAt, blocksIn}
+use Rattle.pooling.specs.Private.{lengthened, blockWords, blockAt, blocksIn}
 
 pub blocks-back : (bs : List Block) → blocksIn (blockWords bs) ≡ bs
 unfolding blockWords blocksIn
@@ -29,6 +29,21 @@ block-first w at b bs e =
     let n : getD w (at + 1) 0 ≡ b .obligors = sym (getD-drop at w 1 0) ∙ ap (λ (l : List ℕ). getD l 1 0) e in
     let d : getD w (at + 2) 0 ≡ b .defaults = sym (getD-drop at w 2 0) ∙ ap (λ (l : List ℕ). getD l 2 0) e in
     rw (g, n, d) refl
+
+-- The first of them gets k grades more.
+
+first-longer : (k : ℕ) (bs : List Block) → set (blockWords bs) 0 (getD (blockWords bs) 0 0 + k) ≡ blockWords (lengthened k bs)
+unfolding blockWords lengthened
+first-longer k [] = refl
+first-longer k (b ∷ bs) = ap (λ (n : ℕ). n ∷ b .obligors ∷ b .defaults ∷ blockWords bs) (omega arith)
+
+pub words-lengthened : (w : List ℕ) (at k : ℕ) (bs : List Block) → drop at w ≡ blockWords bs
+    → drop at (set w at (getD w at 0 + k)) ≡ blockWords (lengthened k bs)
+words-lengthened w at k bs e =
+    let here : getD w at 0 ≡ getD (blockWords bs) 0 0 = rw add-zero at (sym (getD-drop at w 0 0)) ∙ ap (λ (l : List ℕ). getD l 0 0) e in
+    let put : drop at (set w at (getD w at 0 + k)) ≡ set (blockWords bs) 0 (getD w at 0 + k) =
+    rw add-zero at (drop-set-add at w 0 (getD w at 0 + k)) ∙ ap (λ (l : List ℕ). set l 0 (getD w at 0 + k)) e in
+    put ∙ ap (λ (n : ℕ). set (blockWords bs) 0 (n + k)) here ∙ first-longer k bs
 
 -- How many words they take.
 pub count-words : (w : List ℕ) (at : ℕ) (bs : List Block) → drop at w ≡ blockWords bs → length w - at ≡ 3 * length bs

@@ -1,16 +1,19 @@
--- What pool writes: three numbers a grade, in which the pooled rates stand, and behind them what stood there before.
+-- What pool writes: three numbers a grade, in which the pooled rates stand at the occupied ones, and behind them what stood there before.
 use Prim.Native.Nat.{ℕ, zero, suc, _+_, _*_, _≤_}
-use mathlib.Core.Path.{_≡_, refl, _∙_}
+use mathlib.Core.Path.{_≡_, refl, sym, ap, _∙_}
 use mathlib.Core.List.{List, [], _∷_, _++_, append-assoc}
 use native.Mathlib.Nat.{zero-add}
 use native.Mathlib.Omega.{arith}
 use lib.ListN.{length, drop, replicate, length-append, length-drop}
 use lib.Seq.{drop-at}
-use Rattle.table.specs.Table.{Table}
-use Rattle.pooling.specs.Pool.{Block, pool}
+use Rattle.table.specs.Table.{Table, Every, Occupied, occupied}
+use Rattle.table.proofs.Occupied.{none-empty}
+use Rattle.pooling.specs.Pool.{Block, pool, blocks}
 use Rattle.pooling.specs.Regression.{rateOf, ratesIn, pooledRates}
-use Rattle.pooling.specs.Numbers.{gradesOf, numbersOf, pooledInto, ratesWritten}
-use Rattle.pooling.proofs.Joined.{sumOf, grades-count}
+use Rattle.pooling.specs.Numbers.{gradesOf, numbersOf, ownNumbers, pooledNumbers, pooledInto, numbersAtOccupied, ratesWritten, ratesAtOccupied}
+use Rattle.pooling.specs.Private.{sumOf}
+use Rattle.pooling.proofs.Joined.{grades-count}
+use Rattle.pooling.proofs.Repeating.{length-pooled-numbers, numbers-at-occupied, all-own}
 
 -- The rates.
 
@@ -24,17 +27,14 @@ unfolding sumOf numbersOf ratesIn ratesWritten
 rates-in [] rest = refl
 rates-in (b ∷ bs) rest = rates-of b (b .grades) (sumOf bs .grades) (numbersOf bs rest) ∙ rw (rates-in bs rest)
 
-pub rates-written : (t : Table) (out : List ℕ) → ratesWritten (length t) (pooledInto t out) ≡ pooledRates t
-rates-written t out = rw (grades-count t) at (rates-in (pool t) (drop (3 * length t) out))
-
--- The numbers behind them.
+-- The numbers.
 
 grades-rest : (x : Block) (k : ℕ) (rest : List ℕ) → gradesOf x k rest ≡ gradesOf x k [] ++ rest
 unfolding gradesOf
 grades-rest x zero rest = refl
 grades-rest x (suc k) rest = rw (grades-rest x k rest)
 
-numbers-rest : (bs : List Block) (rest : List ℕ) → numbersOf bs rest ≡ numbersOf bs [] ++ rest
+pub numbers-rest : (bs : List Block) (rest : List ℕ) → numbersOf bs rest ≡ numbersOf bs [] ++ rest
 unfolding numbersOf
 numbers-rest [] rest = refl
 numbers-rest (b ∷ bs) rest =
@@ -51,14 +51,27 @@ unfolding sumOf numbersOf
 length-numbers [] = refl
 length-numbers (b ∷ bs) = omega (arith, length-grades b (b .grades) (numbersOf bs []), length-numbers bs)
 
+length-own : (t : Table) → length (ownNumbers t) ≡ 3 * length (occupied t)
+length-own t = rw (grades-count (occupied t)) at (length-numbers (blocks t))
+
+-- At the occupied grades stand their own, and so their rates.
+
+pub occupied-written : (t : Table) (out : List ℕ) → numbersAtOccupied t (pooledInto t out) ≡ ownNumbers t
+occupied-written t out = numbers-at-occupied t out (length-own t)
+
+pub rates-written : (t : Table) (out : List ℕ) → ratesAtOccupied t (pooledInto t out) ≡ pooledRates (occupied t)
+rates-written t out = rw (occupied-written t out) (rw (grades-count (occupied t)) at (rates-in (blocks t) []))
+
+pub none-empty-written : (t : Table) (out : List ℕ) → Every Occupied t → pooledInto t out ≡ numbersOf (pool t) (drop (3 * length t) out)
+none-empty-written t out h =
+    let e = none-empty t h in
+    let n : length (ownNumbers t) ≡ 3 * length t = length-own t ∙ ap (λ (u : Table). 3 * length u) e in
+    rw (all-own t h n, e) (sym (numbers-rest (pool t) (drop (3 * length t) out)))
+
 -- A buffer that is long enough stays as long, and is kept from 3 numbers a grade on.
-module _ (t : Table) (out : List ℕ) where
-  numbers-length : length (numbersOf (pool t) []) ≡ 3 * length t
-  numbers-length = rw (grades-count t) at (length-numbers (pool t))
 
-  pub length-pooled : 3 * length t ≤ length out → length (pooledInto t out) ≡ length out
-  length-pooled h =
-      rw (numbers-rest (pool t) (drop (3 * length t) out), length-append, numbers-length, length-drop) (omega arith)
+pub length-pooled : (t : Table) (out : List ℕ) → 3 * length t ≤ length out → length (pooledInto t out) ≡ length out
+length-pooled t out h = rw (length-append, length-pooled-numbers t, length-drop) (omega arith)
 
-  pub drop-pooled : drop (3 * length t) (pooledInto t out) ≡ drop (3 * length t) out
-  drop-pooled = rw (numbers-rest (pool t) (drop (3 * length t) out)) (drop-at (numbersOf (pool t) []) _ (3 * length t) numbers-length)
+pub drop-pooled : (t : Table) (out : List ℕ) → drop (3 * length t) (pooledInto t out) ≡ drop (3 * length t) out
+drop-pooled t out = drop-at (pooledNumbers t) _ (3 * length t) (length-pooled-numbers t)

@@ -1,14 +1,15 @@
 -- What is proved of pooling, beside the contracts. The contract of `claims` in src/lib.rt is all of it, so that the crate is refused where
--- a claim is not proved.
-use Prim.Native.Nat.{ℕ, _<_}
+-- a claim is not proved. A claim on `pool t` is for tables without empty grades: of any t, read it of `occupied t`, whose blocks are `blocks t`.
+use Prim.Native.Nat.{ℕ, _*_, _≤_, _<_}
 use mathlib.Core.Path.{_≡_}
 use mathlib.Core.List.{List}
-use lib.ListN.{length, getD}
-use Rattle.table.specs.Table.{Table, Every, Occupied, Sound, defaultsIn, obligorsIn}
+use lib.ListN.{length, getD, drop}
+use Rattle.table.specs.Table.{Table, Every, Occupied, Counted, Sound, occupied, defaultsIn, survivorsIn, obligorsIn}
+use Rattle.table.specs.Place.{blank}
 use Rattle.pooling.specs.Pool.{Block, pool, pooledScale, Rising, Runs}
 use Rattle.pooling.specs.Band.{bandLimit, bandOf, IsBand}
 use Rattle.pooling.specs.Limits.{listedLimits}
-use Rattle.pooling.specs.Numbers.{pooledInto, ratesWritten}
+use Rattle.pooling.specs.Numbers.{numbersOf, three, ownNumbers, pooledInto, numbersAtOccupied, ratesAtOccupied}
 use Rattle.pooling.specs.Fraction.{Fraction, Proper, AtMost, sum, difference, square, times, product}
 use Rattle.pooling.specs.Regression.{Monotone, IsRegression, distance, rates, error, ratesIn, pooledRates}
 
@@ -20,22 +21,64 @@ BlocksAreRuns = (t : Table) → Runs (pool t) t
 abbrev pub RatesRise : Type 0
 RatesRise = (t : Table) → Rising (pool t)
 
--- "The pooled scale is the table whose grades are the blocks": it is a table.
+-- R-4: "An empty grade adds nothing to any count": the occupied grades have all of them.
+abbrev pub EmptyGradesAddNothing : Type 0
+EmptyGradesAddNothing =
+    (t : Table) → Every Counted t
+    → Every Occupied (occupied t)
+    × (obligorsIn (occupied t) ≡ obligorsIn t)
+    × (defaultsIn (occupied t) ≡ defaultsIn t)
+    × (survivorsIn (occupied t) ≡ survivorsIn t)
+
+-- "The pooled scale is the table whose grades are the blocks": it is a table, and no grade of it is empty.
 abbrev pub PooledScaleIsATable : Type 0
-PooledScaleIsATable = (t : Table) → Sound t → Sound (pooledScale t)
+PooledScaleIsATable = (t : Table) → Sound t → Sound (pooledScale t) × Every Occupied (pooledScale t)
 
 -- It keeps all obligors and all defaults.
 abbrev pub TotalsAreKept : Type 0
-TotalsAreKept = (t : Table) → (obligorsIn (pooledScale t) ≡ obligorsIn t) × (defaultsIn (pooledScale t) ≡ defaultsIn t)
+TotalsAreKept =
+    (t : Table) → Every Counted t → (obligorsIn (pooledScale t) ≡ obligorsIn t) × (defaultsIn (pooledScale t) ≡ defaultsIn t)
 
 -- "The rates are the monotone regression with weights n": of all never-falling lists of fractions the pooled rates alone have the
 -- smallest obligor-weighted squared error.
 abbrev pub PooledRatesAreTheRegression : Type 0
 PooledRatesAreTheRegression = (t : Table) → Every Occupied t → IsRegression t (pooledRates t)
 
--- What is written are those rates, grade by grade.
+-- What is written at the occupied grades are the numbers of their blocks,
+abbrev pub OccupiedGradesHaveTheirOwnNumbers : Type 0
+OccupiedGradesHaveTheirOwnNumbers = (t : Table) (out : List ℕ) → numbersAtOccupied t (pooledInto t out) ≡ ownNumbers t
+
+-- and so their rates, grade by grade.
 abbrev pub WrittenRatesAreThePooledRates : Type 0
-WrittenRatesAreThePooledRates = (t : Table) (out : List ℕ) → ratesWritten (length t) (pooledInto t out) ≡ pooledRates t
+WrittenRatesAreThePooledRates = (t : Table) (out : List ℕ) → ratesAtOccupied t (pooledInto t out) ≡ pooledRates (occupied t)
+
+-- Where no grade is empty, nothing else is written.
+abbrev pub OccupiedTablesRepeatNothing : Type 0
+OccupiedTablesRepeatNothing =
+    (t : Table) (out : List ℕ) → Every Occupied t → pooledInto t out ≡ numbersOf (pool t) (drop (3 * length t) out)
+
+-- grade i of t, the best being 0, is occupied; is empty
+abbrev pub OccupiedAt : Table → ℕ → Type 0
+OccupiedAt t i = Occupied (getD t i blank)
+
+abbrev pub EmptyAt : Table → ℕ → Type 0
+EmptyAt t i = (i < length t) × (getD t i blank .obligors ≡ 0)
+
+-- the three numbers of grade i
+abbrev pub numbersAt : ℕ → List ℕ → List ℕ
+numbersAt i out = three (drop (3 * i) out)
+
+-- R-4: "Pool repeats for it the three numbers of the next better occupied grade": j is occupied, and from there to i all are empty;
+abbrev pub EmptyGradesRepeatTheNextBetter : Type 0
+EmptyGradesRepeatTheNextBetter =
+    (t : Table) (out : List ℕ) (i j : ℕ) → j < i → OccupiedAt t j → ((k : ℕ) → j < k → k ≤ i → EmptyAt t k)
+    → numbersAt i (pooledInto t out) ≡ numbersAt j (pooledInto t out)
+
+-- "or of the best occupied grade if none is better": j is occupied, and all before it are empty.
+abbrev pub EmptyGradesRepeatTheBest : Type 0
+EmptyGradesRepeatTheBest =
+    (t : Table) (out : List ℕ) (i j : ℕ) → i < j → OccupiedAt t j → ((k : ℕ) → k < j → EmptyAt t k)
+    → numbersAt i (pooledInto t out) ≡ numbersAt j (pooledInto t out)
 
 -- The squared error of any never-falling q is at least that of the pooled rates and the squared distance of q from them.
 abbrev pub ErrorIsAtLeast : Type 0
@@ -74,10 +117,15 @@ ErrorsAreProper =
 pub record Claims : Type 0 where
   pub blocks-are-runs : BlocksAreRuns
   pub rates-rise : RatesRise
+  pub empty-grades-add-nothing : EmptyGradesAddNothing
   pub pooled-scale-is-a-table : PooledScaleIsATable
   pub totals-are-kept : TotalsAreKept
   pub pooled-rates-are-the-regression : PooledRatesAreTheRegression
+  pub occupied-grades-have-their-own-numbers : OccupiedGradesHaveTheirOwnNumbers
   pub written-rates-are-the-pooled-rates : WrittenRatesAreThePooledRates
+  pub occupied-tables-repeat-nothing : OccupiedTablesRepeatNothing
+  pub empty-grades-repeat-the-next-better : EmptyGradesRepeatTheNextBetter
+  pub empty-grades-repeat-the-best : EmptyGradesRepeatTheBest
   pub error-is-at-least : ErrorIsAtLeast
   pub blocks-are-determined : BlocksAreDetermined
   pub bands-are-right : BandsAreRight

@@ -5,7 +5,7 @@ use mathlib.Core.Bool.{Bool, cond}
 use mathlib.Core.List.{List, [], _∷_, map}
 use lib.Dec.{ltb}
 use lib.ListN.{length, take, drop}
-use Rattle.table.specs.Table.{Table, Grade, defaultsIn, obligorsIn}
+use Rattle.table.specs.Table.{Table, Grade, occupied, defaultsIn, obligorsIn}
 -- A run of neighbouring grades: how many, their obligors and their defaults.
 pub use Rattle.pooling.specs.declared.Block.{Block}
 
@@ -29,17 +29,21 @@ unfoldable pub front : Block → List Block → List Block
 front b [] = b ∷ []
 front b (c ∷ rest) = cond (rateBelow b c) (b ∷ c ∷ rest) (front (join b c) rest)
 
--- the blocks of a table, best first
+-- the blocks of a table of occupied grades, best first
 unfoldable pub pool : Table → List Block
 pool [] = []
 pool (r ∷ t) = front (single r) (pool t)
+
+-- The blocks of any table: those of its occupied grades (R-4).
+abbrev pub blocks : Table → List Block
+blocks t = pool (occupied t)
 
 -- The pooled scale: the table whose grades are the blocks. It announces nothing.
 abbrev pub asGrade : Block → Grade
 asGrade b = record { obligors = b .obligors; defaults = b .defaults; announced = 0 }
 
 abbrev pub pooledScale : Table → Table
-pooledScale t = map asGrade (pool t)
+pooledScale t = map asGrade (blocks t)
 
 -- The rates strictly rise from block to block.
 unfoldable pub Rising : List Block → Type 0

@@ -1,9 +1,47 @@
 -- Serves contracts of functions inside the library only: what is promised does not rest on it.
--- Blocks as words, the numbers that the code holds: three for each, its grades, its obligors and its defaults.
-use Prim.Native.Nat.{ℕ, _+_}
+-- The blocks that the code holds, and their words: three numbers for each, its grades, its obligors and its defaults.
+use Prim.Native.Nat.{ℕ, _+_, _≤_}
+use mathlib.Core.Bool.{cond}
 use mathlib.Core.List.{List, [], _∷_}
 use lib.ListN.{getD}
+use Rattle.table.specs.Table.{Table, isOccupied}
+use Rattle.table.specs.Counts.{largest}
 use Rattle.pooling.specs.declared.Block.{Block}
+use Rattle.pooling.specs.Pool.{join, front}
+
+-- k grades with n obligors, d of whom defaulted
+abbrev pub block : ℕ → ℕ → ℕ → Block
+block k n d = record { grades = k; obligors = n; defaults = d }
+
+-- The blocks as the code makes them from the worst grade to the best. An occupied grade also stands for the empty ones behind it: this many
+-- in front of t wait for a better occupied one,
+unfoldable pub waiting : Table → ℕ
+waiting [] = 0
+waiting (r ∷ t) = cond (isOccupied r) 0 (waiting t + 1)
+
+-- and these are the blocks behind them.
+unfoldable pub behindWaiting : Table → List Block
+behindWaiting [] = []
+behindWaiting (r ∷ t) =
+    cond (isOccupied r) (front (block (waiting t + 1) (r .obligors) (r .defaults)) (behindWaiting t)) (behindWaiting t)
+
+-- k grades more, all empty, for the first of some blocks
+unfoldable pub lengthened : ℕ → List Block → List Block
+lengthened k [] = []
+lengthened k (b ∷ bs) = block (k + b .grades) (b .obligors) (b .defaults) ∷ bs
+
+-- The blocks of t, `grades` counting all that have a block's numbers: those that still wait at the end are counted to the best.
+abbrev pub spanning : Table → List Block
+spanning t = lengthened (waiting t) (behindWaiting t)
+
+-- all of some blocks as one
+unfoldable pub sumOf : List Block → Block
+sumOf [] = block 0 0 0
+sumOf (b ∷ bs) = join b (sumOf bs)
+
+-- the counts of a block fit in 32 bits
+abbrev pub Fitting : Block → Type 0
+Fitting b = (b .grades ≤ largest) × (b .obligors ≤ largest) × (b .defaults ≤ largest)
 
 -- the words of blocks
 unfoldable pub blockWords : List Block → List ℕ

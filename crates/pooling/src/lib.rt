@@ -5,8 +5,8 @@ ghost use mathlib.Core.List.{_∷_, _++_};
 ghost use lib.ListN.{length, take, drop};
 ghost use Rattle.table.specs.Words.{tableIn, HoldsTable};
 ghost use Rattle.table.specs.Counts.{largest};
-ghost use Rattle.pooling.specs.Pool.{join, pool, rateBelow};
-ghost use Rattle.pooling.specs.Private.{blockWords, blockAt};
+ghost use Rattle.pooling.specs.Pool.{join, rateBelow, front};
+ghost use Rattle.pooling.specs.Private.{Fitting, sumOf, blockWords, blockAt, blocksIn, spanning};
 ghost use Rattle.pooling.specs.Band.{bandOf};
 ghost use Rattle.pooling.specs.Limits.{listedLimits};
 ghost use Rattle.pooling.specs.Numbers.{gradesOf, pooledInto};
@@ -15,7 +15,8 @@ use table::DEFAULTS;
 use table::PPM;
 use table::grades_of;
 
-// A run of neighbouring grades: how many, their obligors and their defaults.
+// A run of neighbouring grades: how many, their obligors and their defaults. Where `blocks_of` stores it, all grades that have its numbers are
+// counted, the empty ones too.
 pub struct Block {
     pub grades: u32,
     pub obligors: u32,
@@ -41,17 +42,6 @@ const BAND_LIMITS: [u32; 14] = [
 ];
 
 impl Block {
-    // A grade as a block of its own.
-    fn of_grade(obligors: u32, defaults: u32) -> Block
-        ensures { λ r. ⌜ r ≡ record { grades = 1; obligors = obligors; defaults = defaults } ⌝ }
-    {
-        Block {
-            grades: 1,
-            obligors,
-            defaults,
-        }
-    }
-
     // This block and the next as one.
     fn joined(self, next: Block) -> Block
         requires grades { ⌜ self .grades + next .grades ≤ largest ⌝ }
@@ -118,17 +108,17 @@ fn store_block(items: &mut [u32; BLOCKS], at: usize, b: Block)
     items[at] = b.grades;
 }
 
-// Stores the blocks of the table in a lent place at the end of `items`, and answers where they start. What stands before means nothing.
-// From the worst grade to the best, each grade is a block that takes in the block after it for as long as its rate is not below that
-// one's, and is then stored before the rest.
-pub fn blocks_of(place: &[u32], items: &mut [u32; BLOCKS]) -> usize
-    requires { ⌜ HoldsTable (now place) × (length (now items) ≡ 120) ⌝ }
-    ensures blocks { λ r. ⌜ (drop r (now (items .exit)) ≡ blockWords (pool (tableIn (now (place .entry))))) × (r < 120) ⌝ }
+// Stores a block before those from `from` on, and answers where it starts. It first takes in the block after it for as long as its rate is
+// not below that one's.
+fn put_before(block: Block, items: &mut [u32; BLOCKS], from: usize) -> usize
+    requires room { ⌜ (length (now items) ≡ 120) × (3 ≤ from) × (from ≤ 120) ⌝ }
+    requires held { ⌜ drop from (now items) ≡ blockWords (blocksIn (drop from (now items))) ⌝ }
+    requires fitting { ⌜ Fitting (join block (sumOf (blocksIn (drop from (now items))))) ⌝ }
+    ensures blocks { λ r. ⌜ drop r (now (items .exit)) ≡ blockWords (front block (blocksIn (drop from (now (items .entry))))) ⌝ }
     ensures length { λ _. ⌜ length (now (items .exit)) ≡ 120 ⌝ }
 {
-    let mut i = grades_of(place) - 1;
-    let mut b = Block::of_grade(place[i], place[DEFAULTS + i]);
-    let mut at = BLOCKS;
+    let mut b = block;
+    let mut at = from;
     loop {
         if at < BLOCKS {
             let next = block_at(&*items, at);
@@ -140,12 +130,38 @@ pub fn blocks_of(place: &[u32], items: &mut [u32; BLOCKS]) -> usize
         }
         at -= 3;
         store_block(&mut *items, at, b);
-        if i == 0 {
-            return at;
-        }
-        i -= 1;
-        b = Block::of_grade(place[i], place[DEFAULTS + i]);
+        return at;
     }
+}
+
+// Stores the blocks of the table in a lent place at the end of `items`, and answers where they start. What stands before means nothing.
+// From the worst grade to the best, an empty grade only adds to those that the next better occupied one stands for; what is left over at the
+// best end is counted to the first block.
+pub fn blocks_of(place: &[u32], items: &mut [u32; BLOCKS]) -> usize
+    requires { ⌜ HoldsTable (now place) × (length (now items) ≡ 120) ⌝ }
+    ensures blocks { λ r. ⌜ (drop r (now (items .exit)) ≡ blockWords (spanning (tableIn (now (place .entry))))) × (r < 120) ⌝ }
+    ensures length { λ _. ⌜ length (now (items .exit)) ≡ 120 ⌝ }
+{
+    let mut i = grades_of(place);
+    let mut grades: u32 = 1;
+    let mut at = BLOCKS;
+    while 0 < i {
+        i -= 1;
+        let obligors = place[i];
+        if obligors == 0 {
+            grades += 1;
+        } else {
+            let b = Block {
+                grades,
+                obligors,
+                defaults: place[DEFAULTS + i],
+            };
+            at = put_before(b, &mut *items, at);
+            grades = 1;
+        }
+    }
+    items[at] += grades - 1;
+    at
 }
 
 // The numbers that pool writes for each grade: its block's defaults, obligors and band.

@@ -23,7 +23,7 @@ pub const COLUMN_KIND: u32 = 7;
 // Defaults above obligors (kind 0).
 pub const MANY_DEFAULTS: u32 = 8;
 
-// n is 0.
+// All grades are empty.
 pub const NO_OBLIGORS: u32 = 9;
 
 // Announced above 1,000,000.

@@ -6,7 +6,7 @@ use mathlib.Core.List.{List, [], _∷_, _++_, map, map-append, append-nil, appen
 use native.Mathlib.Omega.{arith}
 use lib.ListN.{length, length-map, length-append}
 use lib.Ieee.{Float, binary64, add, ofBits}
-use Rattle.table.specs.Table.{Grade, Every, Occupied, Counted, Sound, obligorsIn}
+use Rattle.table.specs.Table.{Grade, Every, Occupied, Counted, obligorsIn}
 use Rattle.table.proofs.Every.{every-split}
 use Rattle.table.proofs.Sums.{obligors-append}
 use Rattle.pooling.specs.declared.Block.{Block}
@@ -14,7 +14,7 @@ use Rattle.pooling.specs.Pool.{asGrade}
 use Rattle.pooling.specs.Fraction.{Fraction, nought, ratio, sum}
 use Rattle.spread.specs.Near.{Near, Within}
 use Rattle.spread.specs.Spread.{residualOf, residualSum}
-use Rattle.spread.proofs.Exact.{residual-next, residual-proper, part-at-most}
+use Rattle.spread.proofs.Exact.{IsScale, residual-next, residual-proper, part-at-most}
 use Rattle.spread.proofs.Rounding.{value-near}
 use Rattle.spread.proofs.Operations.{add-near, near-wider}
 
@@ -29,7 +29,7 @@ pub record Added (blocks rest : List Block) (t : Float) : Type 0 where
   pub near : Near t (residualSum passed) (units (2 * length passed))
 
 -- The next block b, the blocks before it and those behind it.
-module _ (passed : List Block) (b : Block) (rest : List Block) (sound : Sound (map asGrade (passed ++ b ∷ rest))) where
+module _ (passed : List Block) (b : Block) (rest : List Block) (scale : IsScale (passed ++ b ∷ rest)) where
   every-here : (P : Grade → Type 0) → Every P (map asGrade (passed ++ b ∷ rest)) → Every P (map asGrade passed) × P (asGrade b)
   every-here P h =
       let s = every-split P (map asGrade passed) (map asGrade (b ∷ rest)) (rw map-append at h) in
@@ -38,9 +38,9 @@ module _ (passed : List Block) (b : Block) (rest : List Block) (sound : Sound (m
   next-counts : Occupied (asGrade b) × Counted (asGrade b) × (b .obligors ≤ 1_000_000)
   unfolding obligorsIn
   next-counts = (
-    every-here Occupied (sound .occupied) .1,
-    every-here Counted (sound .counted) .1,
-    omega (arith, rw (map-append, obligors-append) at (sound .total)),
+    every-here Occupied (scale .1) .1,
+    every-here Counted (scale .0 .counted) .1,
+    omega (arith, rw (map-append, obligors-append) at (scale .0 .total)),
   )
 
   next-near : (t q : Float) → Near t (residualSum passed) (units (2 * length passed)) → Near q (residualOf b) (units 1)
@@ -49,16 +49,16 @@ module _ (passed : List Block) (b : Block) (rest : List Block) (sound : Sound (m
   next-near t q near quotient =
       let p = residualSum passed in
       let k = length passed in
-      let few : k ≤ 40 = omega (arith, rw (length-map, length-append) at (sound .few)) in
-      let P = residual-proper passed (every-here Occupied (sound .occupied) .0) in
-      let B = every-here Occupied (sound .occupied) .1 in
-      let most = rw residual-next at (part-at-most (passed ++ b ∷ []) rest (rw append-assoc sound)) in
+      let few : k ≤ 40 = omega (arith, rw (length-map, length-append) at (scale .0 .few)) in
+      let P = residual-proper passed (every-here Occupied (scale .1) .0) in
+      let B = every-here Occupied (scale .1) .1 in
+      let most = rw residual-next at (part-at-most (passed ++ b ∷ []) rest (rw append-assoc scale)) in
       let longer : length (passed ++ b ∷ []) ≡ suc k = rw length-append (omega arith) in
       let twice : 1 + (2 * k + 1) ≡ 2 * suc k = omega arith in
       rw (residual-next, longer, ← twice)
       (add-near binary64 18 36 refl 250_000 (2 * k) 1 t q p (residualOf b) near quotient P B most (omega arith) (omega arith))
 
-module _ (blocks : List Block) (sound : Sound (map asGrade blocks)) where
+module _ (blocks : List Block) (scale : IsScale blocks) where
   pub start : Added blocks blocks (ofBits binary64 0)
   unfolding residualSum nought ratio sum ofBits
   start = record {
@@ -69,18 +69,18 @@ module _ (blocks : List Block) (sound : Sound (map asGrade blocks)) where
 
   module _ (b : Block) (rest : List Block) (t : Float) (a : Added blocks (b ∷ rest) t) where
     pub counts : Occupied (asGrade b) × Counted (asGrade b) × (b .obligors ≤ 1_000_000)
-    counts = next-counts (a .passed) b rest (rw (a .split) sound)
+    counts = next-counts (a .passed) b rest (rw (a .split) scale)
 
     pub step : (q : Float) → Near q (residualOf b) (units 1) → Added blocks rest (add binary64 t q)
     step q near = record {
       passed = a .passed ++ b ∷ [];
       split = rw append-assoc (a .split);
-      near = next-near (a .passed) b rest (rw (a .split) sound) t q (a .near) near;
+      near = next-near (a .passed) b rest (rw (a .split) scale) t q (a .near) near;
     }
 
   pub finish : (t : Float) → Added blocks [] t → Within t (residualSum blocks) 29
   unfolding ratio
   finish t a =
       let all : a .passed ≡ blocks = sym (append-nil (a .passed)) ∙ a .split in
-      let few : length blocks ≤ 40 = rw length-map at (sound .few) in
-      near-wider t (ratio 1 (2 ^ 29)) (residual-proper blocks (sound .occupied)) (omega arith) (omega arith) (rw all at (a .near))
+      let few : length blocks ≤ 40 = rw length-map at (scale .0 .few) in
+      near-wider t (ratio 1 (2 ^ 29)) (residual-proper blocks (scale .1)) (omega arith) (omega arith) (rw all at (a .near))

@@ -6,12 +6,13 @@ use mathlib.Core.List.{List, [], _∷_, _++_}
 use native.Mathlib.Nat.{mul-pos}
 use native.Mathlib.Omega.{arith}
 use lib.ListN.{length, replicate}
-use Rattle.table.specs.Table.{Table, Grade, Every, Occupied, Counted, survivors, defaultsIn, survivorsIn, obligorsIn}
+use Rattle.table.specs.Table.{Table, Grade, Every, Occupied, Counted, occupied, survivors, defaultsIn, survivorsIn, obligorsIn}
 use Rattle.table.proofs.Arithmetic.{times-eq}
 use Rattle.table.proofs.Every.{every-map₂, every-append}
+use Rattle.table.proofs.Occupied.{all-occupied, every-occupied}
 use Rattle.table.proofs.Sums.{obligors-split, obligors-append}
 use Rattle.pooling.specs.declared.Block.{Block}
-use Rattle.pooling.specs.Pool.{pool, blockOf}
+use Rattle.pooling.specs.Pool.{blocks, blockOf}
 use Rattle.pooling.specs.Fraction.{Fraction, Equal, ratio, sum, difference, square}
 use Rattle.pooling.specs.Regression.{rateOf, ratesIn, pooledRates}
 use Rattle.pooling.proofs.Front.{AtMostRate}
@@ -89,5 +90,7 @@ filled-single : (r : Grade) → Occupied r → Counted r → Filled (r ∷ [])
 unfolding obligorsIn
 filled-single r o c = ((c, tt), omega arith)
 
-pub residual-brier : (t : Table) → Every Occupied t → Every Counted t → Equal (residualSum (pool t)) (brierSumOfRates t (pooledRates t))
-residual-brier t o c = cut-brier (pool-cut Filled filled-append t (every-map₂ filled-single t o c))
+pub residual-brier : (t : Table) → Every Counted t → Equal (residualSum (blocks t)) (brierSumOfRates (occupied t) (pooledRates (occupied t)))
+residual-brier t c =
+    let counted = every-occupied Counted t c in
+    cut-brier (pool-cut Filled filled-append (occupied t) (every-map₂ filled-single (occupied t) (all-occupied t) counted))

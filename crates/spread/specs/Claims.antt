@@ -4,8 +4,8 @@ use Prim.Native.Nat.{ℕ, _^_, _≤_}
 use mathlib.Core.List.{List}
 use lib.ListN.{length, replicate}
 use lib.Ieee.{Float}
-use Rattle.table.specs.Table.{Table, Every, Occupied, Counted, defaultsIn, obligorsIn}
-use Rattle.pooling.specs.Pool.{pool}
+use Rattle.table.specs.Table.{Table, Every, Counted, occupied, defaultsIn, obligorsIn}
+use Rattle.pooling.specs.Pool.{blocks}
 use Rattle.pooling.specs.Fraction.{Fraction, Proper, Equal, ratio}
 use Rattle.pooling.specs.Regression.{pooledRates}
 use Rattle.spread.specs.Near.{valueOf}
@@ -18,17 +18,17 @@ TotalIsTheBrierSumOfTheOneRate =
     (t : Table) → Every Counted t → 1 ≤ obligorsIn t
     → Equal (totalOf t) (brierSumOfRates t (replicate (length t) (ratio (defaultsIn t) (obligorsIn t))))
 
--- The exact residual sum over blocks is the Brier sum of the pooled rates.
+-- The exact residual sum over blocks is the Brier sum of the pooled rates, which concern the occupied grades.
 abbrev pub ResidualIsTheBrierSumOfThePooledRates : Type 0
 ResidualIsTheBrierSumOfThePooledRates =
-    (t : Table) → Every Occupied t → Every Counted t → Equal (residualSum (pool t)) (brierSumOfRates t (pooledRates t))
+    (t : Table) → Every Counted t → Equal (residualSum (blocks t)) (brierSumOfRates (occupied t) (pooledRates (occupied t)))
 
 -- Cross-multiplication compares proper fractions only, those over at least 1. Those compared here are: the exact numbers of a table,
 abbrev pub SumsAreProper : Type 0
 SumsAreProper =
-    (t : Table) → Every Occupied t
-    → (1 ≤ length t → Proper (totalOf t))
-    × Proper (residualSum (pool t))
+    (t : Table)
+    → (1 ≤ length (occupied t) → Proper (totalOf t))
+    × Proper (residualSum (blocks t))
     × ((q : List Fraction) → Every Proper q → Proper (brierSumOfRates t q))
 
 -- and what is held to them: the value of any float, and the bounds.

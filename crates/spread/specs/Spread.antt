@@ -3,7 +3,7 @@ use Prim.Native.Nat.{_-_, _*_}
 use mathlib.Core.List.{List, [], _∷_}
 use Rattle.table.specs.Table.{Table, defaultsIn, survivorsIn, obligorsIn}
 use Rattle.pooling.specs.declared.Block.{Block}
-use Rattle.pooling.specs.Pool.{pool}
+use Rattle.pooling.specs.Pool.{blocks}
 use Rattle.pooling.specs.Fraction.{Fraction, nought, ratio, sum}
 use Rattle.spread.specs.declared.Spread.{Spread}
 use Rattle.spread.specs.Near.{Within}
@@ -25,4 +25,4 @@ residualSum (b ∷ bs) = sum (residualOf b) (residualSum bs)
 -- floats alone are freer, bound as above".
 pub record IsSpread (t : Table) (r : Spread) : Type 0 where
   pub total : Within (r .total) (totalOf t) 36
-  pub residual : Within (r .residual) (residualSum (pool t)) 29
+  pub residual : Within (r .residual) (residualSum (blocks t)) 29

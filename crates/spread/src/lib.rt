@@ -2,7 +2,7 @@
 ghost use Prim.Native.Nat.{_-_, _*_, _≤_};
 ghost use mathlib.Core.Path.{_≡_};
 ghost use mathlib.Core.List.{map};
-ghost use Rattle.table.specs.Table.{Sound};
+ghost use Rattle.table.specs.Table.{Every, Occupied, Sound};
 ghost use Rattle.table.specs.Words.{tableIn, HoldsTable};
 ghost use Rattle.pooling.specs.Fraction.{ratio};
 ghost use Rattle.pooling.specs.Pool.{asGrade};
@@ -34,10 +34,10 @@ fn quotient(defaults: u32, obligors: Obligors) -> f64
 }
 
 // The sum over the blocks in these words, best first, of block defaults times block survivors over block obligors. The blocks, as grades,
-// are a table.
+// are a table, and none is empty.
 fn residual(items: &[u32]) -> f64
     requires blocks { ⌜ now items ≡ blockWords (blocksIn (now items)) ⌝ }
-    requires sound { ⌜ Sound (map asGrade (blocksIn (now items))) ⌝ }
+    requires sound { ⌜ Sound (map asGrade (blocksIn (now items))) × Every Occupied (map asGrade (blocksIn (now items))) ⌝ }
     ensures { λ r. ⌜ Within r (residualSum (blocksIn (now (items .entry)))) 29 ⌝ }
 {
     let mut sum = 0.0;

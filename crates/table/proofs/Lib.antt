@@ -2,6 +2,7 @@ pub mod Arithmetic
 pub mod Test
 pub mod Pastes
 pub mod Every
+pub mod Occupied
 pub mod Sums
 pub mod Suffix
 pub mod Placed

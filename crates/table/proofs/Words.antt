@@ -9,7 +9,7 @@ use lib.Dec.{eqb}
 use lib.ListN.{length, getD, set, take, drop, replicate, length-append}
 use lib.Seq.{paste, set-at, take-all, take-at, drop-at, drop-drop, getD-take, getD-drop}
 use Rattle.table.specs.declared.Place.{Place}
-use Rattle.table.specs.Table.{Occupied, Counted, Rated, Sound}
+use Rattle.table.specs.Table.{Counted, Rated, Sound}
 use Rattle.table.specs.Place.{fresh, gradeAt, tableOf, placeOf, SoundPlace, empty, holds}
 use Rattle.table.specs.Words.{placeSize, wordsOf, columnIn, placeIn, HoldsTable, IsPlace}
 use Rattle.table.proofs.Pastes.{paste-behind}
@@ -139,7 +139,6 @@ pub record Turn (w : List ℕ) (i : ℕ) : Type 0 where
   pub obligors : getD w (i - 1) 0 ≡ gradeAt (placeIn w) (i - 1) .obligors
   pub defaults : getD w (40 + (i - 1)) 0 ≡ gradeAt (placeIn w) (i - 1) .defaults
   pub announced : getD w (80 + (i - 1)) 0 ≡ gradeAt (placeIn w) (i - 1) .announced
-  pub occupied : Occupied (gradeAt (placeIn w) (i - 1))
   pub counted : Counted (gradeAt (placeIn w) (i - 1))
   pub rated : Rated (gradeAt (placeIn w) (i - 1))
   pub down : suffix (placeIn w) (i - 1) ≡ gradeAt (placeIn w) (i - 1) ∷ suffix (placeIn w) i
@@ -166,7 +165,6 @@ turn w i h pos l =
       obligors = rw zero-add at (column-at w 0 (i - 1) near);
       defaults = column-at w 40 (i - 1) near;
       announced = column-at w 80 (i - 1) near;
-      occupied = (rw e at (every-suffix Occupied p (i - 1) at (h .sound .occupied))) .0;
       counted = (rw e at (every-suffix Counted p (i - 1) at (h .sound .counted))) .0;
       rated = (rw e at (every-suffix Rated p (i - 1) at (h .sound .rated))) .0;
       down = e;

@@ -7,6 +7,7 @@ from typing import Sequence
 from ..answers import decimal
 
 MOST_OF_A_NAME, LEAST_OF_A_NAME = 40, 20
+NONE = '-'  # in place of a figure that there is not
 
 
 def plain(text: str) -> str:
@@ -23,13 +24,13 @@ def shown(name: str) -> str:
     return plain(shortened(name, MOST_OF_A_NAME))
 
 
-def percent(rate: Fraction) -> str:
-    """A rate in percent to four places, which show every ppm; exact, where a float would round otherwise.
+def percent(rate: Fraction | None) -> str:
+    """A rate in percent to four places, which show every ppm; exact, where a float would round otherwise. A dash where there is none.
 
-    >>> percent(Fraction(1, 3)), percent(Fraction(3, 2_000_000))
-    ('33.3333%', '0.0002%')
+    >>> percent(Fraction(1, 3)), percent(Fraction(3, 2_000_000)), percent(None)
+    ('33.3333%', '0.0002%', '-')
     """
-    return f'{decimal(100 * rate, 4)}%'
+    return NONE if rate is None else f'{decimal(100 * rate, 4)}%'
 
 
 def columns(rows: Sequence[Sequence[str]], right: str = '') -> list[str]:

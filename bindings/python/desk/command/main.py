@@ -102,6 +102,8 @@ def command_line() -> Parser:
     show = command('show', 'the grades, rates and measures of a rater, or all raters at a glance', 'desk show portfolio.book 3')
     show.add_argument('file', metavar='FILE')
     show.add_argument('rater', nargs='?', metavar='RATER', help='its number or name; left out, all raters of a file that has several')
+    show.add_argument('--repeated', action='store_true', help='for an empty grade also the pooled rate and band that pool repeats for it, '
+                                                              'and of which grade they are')
     pack = command('pack', 'CSV files to one book; each table is a rater, in the order given',
                    'desk pack inhouse.csv agency.csv -o both.book')
     pack.add_argument('files', nargs='+', metavar='FILE.csv')
@@ -124,7 +126,7 @@ def answer(asked: argparse.Namespace) -> Outcome:
         return compare(asked.words, asked.prices, shared_library())
     if asked.command == 'show':
         from .show import show
-        return show(asked.file, asked.rater, shared_library())
+        return show(asked.file, asked.rater, asked.repeated, shared_library())
     if asked.command == 'pack':
         from .convert import pack
         return pack(asked.files, asked.output)

@@ -48,7 +48,7 @@ def of_table(table: Table) -> Iterator[Question]:
         yield Question('order', f'the announced rates of {table.name} fall from grade {grades}; a worse grade is taken to have the '
                                 'higher rate')
     *others, last = table.grades
-    if len(others) > 1 and (2 * last.obligors, 2 * last.defaults) == (table.obligors, table.defaults):
+    if sum(grade.obligors > 0 for grade in others) > 1 and (2 * last.obligors, 2 * last.defaults) == (table.obligors, table.defaults):
         yield Question('total', f'the last grade of {table.name} has as many obligors and defaults as all others together: is it a total?')
 
 

@@ -1,5 +1,6 @@
 -- The claims: `claims` has nothing to do but to show each of them.
 use Rattle.book.proofs.Accept.{accepted}
+use Rattle.book.proofs.Emptiness.{sound-accepted, empty-told, nine-means}
 use Rattle.book.proofs.Columns.{first-column}
 use Rattle.book.proofs.RoundTrip.{round-trip}
 use Rattle.book.proofs.Again.{written-again}
@@ -10,6 +11,9 @@ use Rattle.book.proofs.claims.Tie as tie
 returns : tie.Need-returns
 returns c = record {
   reading-is-sound = accepted;
+  sound-tables-are-read = sound-accepted;
+  nine-means-all-empty = nine-means;
+  all-empty-is-told = empty-told;
   first-column-is-of-its-kind = first-column;
   written-book-reads-back = round-trip;
   read-book-writes-back = written-again;

@@ -1,7 +1,7 @@
 -- `judge` meets its contract: the words are those of the blocks of the two tables, and each way out has the verdict of the two searches.
 use Prim.Native.Nat.{ℕ, _-_}
-use mathlib.Core.Path.{_≡_, ap, _∙_}
-use mathlib.Core.List.{List, map}
+use mathlib.Core.Path.{_≡_, _∙_}
+use mathlib.Core.List.{List}
 use native.Mathlib.Omega.{arith}
 use borrow.Author.Needs.{needs}
 use denote.Ref.{now}
@@ -9,15 +9,13 @@ use lib.ListN.{length, take, drop, length-drop}
 use lib.Seq.{take-all}
 use Rattle.table.specs.Table.{Table, defaultsIn}
 use Rattle.table.specs.Words.{tableIn}
-use Rattle.pooling.specs.Pool.{asGrade, pool, pooledScale}
-use Rattle.pooling.specs.Private.{blockWords, blocksIn}
+use Rattle.pooling.specs.Private.{spanning, blockWords}
 use Rattle.pooling.proofs.Joined.{pooled-totals}
-use Rattle.pooling.proofs.Words.{blocks-back}
 use Rattle.cutoff.specs.Verdict.{IsVerdict}
 use Rattle.cutoff.specs.Sweep.{scaleIn}
 use Rattle.cutoff.specs.declared.Dearer.{Dearer}
 use Rattle.cutoff.specs.declared.Dearer.the-variants.{At, Nowhere}
-use Rattle.cutoff.proofs.Judged.{sweepable, verdictOf, verdict-is}
+use Rattle.cutoff.proofs.Judged.{held-scale, sweepable, verdictOf, verdict-is}
 use Rattle.cutoff.proofs.judge.Statement.{statement}
 use Rattle.cutoff.proofs.judge.Tie as tie
 
@@ -43,26 +41,24 @@ words₂ c = part (c .blocks-of2 .last .1 .0) (c .blocks-of2 .result)
 part-all : (items : List ℕ) (from : ℕ) → length items ≡ 120 → part items from ≡ drop from items
 part-all items from h = take-all (120 - from) (drop from items) (omega (arith, length-drop from items))
 
-blocks₁ : (c : tie.After-blocks-of2) → words₁ c ≡ blockWords (pool (table₁ c))
+blocks₁ : (c : tie.After-blocks-of2) → words₁ c ≡ blockWords (spanning (table₁ c))
 blocks₁ c = let f = c .before .before .blocks-of in part-all (f .last .1 .0) (f .result) (f .ensures .1) ∙ f .ensures .0 .0
 
-blocks₂ : (c : tie.After-blocks-of2) → words₂ c ≡ blockWords (pool (table₂ c))
+blocks₂ : (c : tie.After-blocks-of2) → words₂ c ≡ blockWords (spanning (table₂ c))
 blocks₂ c = let f = c .blocks-of2 in part-all (f .last .1 .0) (f .result) (f .ensures .1) ∙ f .ensures .0 .0
-
-scale : (t : Table) (w : List ℕ) → w ≡ blockWords (pool t) → scaleIn w ≡ pooledScale t
-scale t w e = ap (map asGrade) (ap blocksIn e ∙ blocks-back (pool t))
 
 -- Both can be searched, and have equally many defaults.
 same : (c : tie.After-blocks-of2) → defaultsIn (scaleIn (words₁ c)) ≡ defaultsIn (scaleIn (words₂ c))
 same c =
-    rw (scale _ _ (blocks₁ c), scale _ _ (blocks₂ c))
-    (omega (arith, pooled-totals (table₁ c), pooled-totals (table₂ c), start c .pre .1 .0))
+    let tables = start c .pre .0 in
+    rw (held-scale _ _ (blocks₁ c), held-scale _ _ (blocks₂ c))
+    (omega (arith, pooled-totals (table₁ c) (tables .0 .sound .counted), pooled-totals (table₂ c) (tables .1 .sound .counted), start c .pre .1 .0))
 
 where-dearer-requires : tie.Need-where-dearer-requires
 where-dearer-requires c κs =
     let b = c .before .before .before .before in
     let tables = start b .pre .0 in
-    ((sweepable _ _ (tables .0 .sound) (blocks₁ b), sweepable _ _ (tables .1 .sound) (blocks₂ b)), same b)
+    ((sweepable _ _ (blocks₁ b) (tables .0 .sound), sweepable _ _ (blocks₂ b) (tables .1 .sound)), same b)
 
 where-dearer-requires-2 : tie.Need-where-dearer-requires-2
 where-dearer-requires-2 c κs = let r = where-dearer-requires (c .before) κs in search needs
@@ -77,8 +73,8 @@ judged c p q e f =
     let b = d .before .before .before .before .before in
     let (tables, (defaults, survivors)) = start b .pre in
     verdict-is _ _ (tables .0 .sound .counted) (tables .1 .sound .counted) survivors p q
-    (rw (scale _ _ (blocks₁ b), scale _ _ (blocks₂ b), e) at (d .where-dearer .ensures))
-    (rw (scale _ _ (blocks₂ b), scale _ _ (blocks₁ b), f) at (c .where-dearer2 .ensures))
+    (rw (held-scale _ _ (blocks₁ b), held-scale _ _ (blocks₂ b), e) at (d .where-dearer .ensures))
+    (rw (held-scale _ _ (blocks₂ b), held-scale _ _ (blocks₁ b), f) at (c .where-dearer2 .ensures))
 
 returns : tie.Need-returns
 returns c = let a = c .before .before in judged (a .before .before) Nowhere Nowhere (a .enum-told .given .1) (c .enum-told2 .given .1)

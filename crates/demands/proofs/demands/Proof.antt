@@ -8,9 +8,9 @@ use Rattle.measures.proofs.Claimed as measures
 use Rattle.desk.proofs.Asked.{asked-sound}
 use Rattle.demands.proofs.History.{places-hold, tables-sound, desk-sound}
 use Rattle.demands.proofs.Faults.{answered, never-five}
-use Rattle.demands.proofs.WrongCuts.{load-tells, load-means}
+use Rattle.demands.proofs.Loads.{load-tells, load-means, load-takes, load-means-empty}
 use Rattle.demands.proofs.Kept.{refused-kept, written-only, others-kept}
-use Rattle.demands.proofs.Accepted.{regression-written, measured-mixed, loads-back, writes-back}
+use Rattle.demands.proofs.Accepted.{regression-written, next-better-written, best-written, measured-mixed, loads-back, writes-back}
 use Rattle.demands.proofs.Verdicts.{compare-right}
 use Rattle.demands.proofs.demands.Statement.{statement}
 use Rattle.demands.proofs.demands.Tie as tie
@@ -24,6 +24,8 @@ returns c = record {
   load-tells-wrong-cuts = load-tells;
   load-means-wrong-cuts = load-means;
   five-is-never-given = never-five;
+  load-takes-sound-tables = load-takes;
+  load-means-all-empty = load-means-empty;
   questions-are-of-tables = asked-sound;
   refusals-change-nothing = refused-kept;
   only-what-is-written-changes = written-only;
@@ -41,6 +43,8 @@ returns c = record {
   );
   measured-tables-are-mixed = measured-mixed;
   pool-writes-the-regression = regression-written;
+  pool-repeats-the-next-better = next-better-written;
+  pool-repeats-the-best = best-written;
   compare-is-right = compare-right;
   every-table-has-one-cheapest-cost = (cheapest-is, cheapest-unique);
   pooling-keeps-the-cheapest-cost = pooled-costs-same;

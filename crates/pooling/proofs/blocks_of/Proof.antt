@@ -1,183 +1,199 @@
--- `blocks_of` meets its contract. The invariant: the block in hand before those stored from `at` on gives the blocks of the grades from
--- grade i on. The measure: a join takes one block away, and each of the i grades left can add one.
+-- `blocks_of` meets its contract. The invariant: one less than `grades` empty grades wait at the front of those from grade i on, and the blocks
+-- behind them are stored from `at` on.
 use Prim.Native.Nat.{ℕ, _+_, _-_, _*_, _≤_, _<_}
-use mathlib.Core.Path.{_≡_, ap, sym, _∙_}
-use mathlib.Core.Bool.{true, false}
-use mathlib.Core.List.{List, [], _∷_}
-use mathlib.Core.Logic.{⊎-elim}
+use mathlib.Core.Path.{_≡_, refl, sym, ap, _∙_}
+use mathlib.Core.List.{List}
 use native.Mathlib.Omega.{arith}
-use borrow.Author.Tests.{not-true, not-false}
 use denote.Ref.{now}
-use lib.ListN.{length, getD, drop, length-drop, drop-of-length-le}
-use Rattle.table.specs.Table.{Sound}
-use Rattle.table.specs.Place.{gradeAt, tableOf}
-use Rattle.table.specs.Words.{placeIn, HoldsTable}
-use Rattle.table.specs.Counts.{largest}
+use lib.ListN.{length, getD, set, drop, drop-of-length-le, length-set}
+use Rattle.table.specs.Table.{Table, Counted, defaultsIn, obligorsIn}
+use Rattle.table.specs.Place.{gradeAt}
+use Rattle.table.specs.Words.{placeIn, tableIn, HoldsTable}
 use Rattle.table.specs.declared.Place.{Place}
-use Rattle.table.proofs.Suffix.{suffix, suffix-all, suffix-end, length-grades, small}
+use Rattle.table.proofs.Occupied.{is-occupied, is-empty}
+use Rattle.table.proofs.Suffix.{suffix, suffix-all, suffix-end, every-suffix, small}
 use Rattle.table.proofs.Words.{Turn, turn, few-in}
-use Rattle.pooling.specs.Pool.{Block, single, join, rateBelow, front, pool}
-use Rattle.pooling.specs.Private.{blockWords, blockAt}
-use Rattle.pooling.proofs.Words.{First, first, no-block}
-use Rattle.pooling.proofs.Joined.{sumOf, sum-all}
+use Rattle.pooling.specs.Pool.{Block, join, front}
+use Rattle.pooling.specs.Private.{block, waiting, behindWaiting, spanning, Fitting, sumOf, blockWords, blocksIn}
+use Rattle.pooling.proofs.Scale.{front-length}
+use Rattle.pooling.proofs.Spanning.{Sums, behind-sums, behind-some}
+use Rattle.pooling.proofs.Words.{blocks-back, first, count-words, words-lengthened}
 use Rattle.pooling.proofs.blocks_of.Statement.{statement}
 use Rattle.pooling.proofs.blocks_of.Tie as tie
 
--- The counts of two blocks together fit in 32 bits.
-abbrev Joinable : Block → Block → Type 0
-Joinable b c = (b .grades + c .grades ≤ largest) × ((b .obligors + c .obligors ≤ largest) × (b .defaults + c .defaults ≤ largest))
-
-record Pooled (p : Place) (i : ℕ) (b : Block) (items : List ℕ) (at : ℕ) : Type 0 where
-  pub inside : i < p .grades
-  pub room : 3 * i + 3 ≤ at
+record Climbed (p : Place) (items : List ℕ) (i grades at : ℕ) : Type 0 where
+  pub inside : i ≤ p .grades
+  pub room : 3 * i ≤ at
   pub short : at ≤ 120
   pub long : length items ≡ 120
-  pub rest : List Block
-  pub stored : drop at items ≡ blockWords rest
-  pub same : front b rest ≡ pool (suffix p i)
-
--- Grade i - 1 as the code reads it.
-abbrev gradeRead : List ℕ → ℕ → Block
-gradeRead w i = record { grades = 1; obligors = getD w (i - 1) 0; defaults = getD w (40 + (i - 1)) 0 }
-
-read : {w : List ℕ} {i : ℕ} → Turn w i → gradeRead w i ≡ single (gradeAt (placeIn w) (i - 1))
-read t = rw (t .obligors, t .defaults)
-
--- What a turn does: it joins the block in hand with the next, or it stores it.
-module _ {p : Place} {i : ℕ} {b : Block} {items : List ℕ} {at : ℕ} (inv : Pooled p i b items at) where
-  -- The block in hand stays before the others.
-  abbrev Stays : Type 0
-  Stays = b ∷ inv .rest ≡ pool (suffix p i)
-
-  -- There is a next block, x.
-  module _ (h : at < 120) where
-    next : First items at (inv .rest)
-    next = first items at (inv .rest) (inv .stored) (omega (arith, inv .long))
-
-    module _ (x : Block) (read-next : x ≡ blockAt items at) where
-      split : inv .rest ≡ x ∷ next .others
-      split = rw read-next (next .split)
-
-      fits : Sound (tableOf p) → Joinable b x
-      unfolding sumOf
-      fits sound =
-          let e = rw split at (sum-all b (inv .rest) (suffix p i) (inv .same)) in
-          let s = small p i sound (omega (arith, inv .inside)) in
-          (omega (arith, ap (λ y. y .grades) e), (omega (arith, ap (λ y. y .obligors) e), omega (arith, ap (λ y. y .defaults) e)))
-
-      joins : rateBelow b x ≡ false → Pooled p i (join b x) items (at + 3)
-      unfolding front
-      joins e = record {
-        inside = inv .inside;
-        room = omega (arith, inv .room);
-        short = omega (arith, next .room, inv .long);
-        long = inv .long;
-        rest = next .others;
-        stored = next .words;
-        same = rw (split, e) at (inv .same);
-      }
-
-      below : rateBelow b x ≡ true → Stays
-      unfolding front
-      below e = rw split (rw (split, e) at (inv .same))
-
-  alone : 120 ≤ at → Stays
-  unfolding front
-  alone h = let n = no-block items at (inv .rest) (inv .stored) (omega (arith, inv .long)) in rw n (rw n at (inv .same))
-
-  -- The block in hand is stored: `new` are the items then.
-  module _ (new : List ℕ) (put : drop (at - 3) new ≡ b .grades ∷ b .obligors ∷ b .defaults ∷ drop (at - 3 + 3) items) where
-    words : drop (at - 3) new ≡ blockWords (b ∷ inv .rest)
-    unfolding blockWords
-    words = let e : at - 3 + 3 ≡ at = omega (arith, inv .room) in rw (e, inv .stored) at put
-
-    full : length new ≡ 120
-    full = omega (arith, inv .room, inv .short, inv .long, sym (length-drop (at - 3) new) ∙ ap length put, length-drop (at - 3 + 3) items)
-
-    next-grade : suffix p (i - 1) ≡ gradeAt p (i - 1) ∷ suffix p i → 0 < i → Stays → Pooled p (i - 1) (single (gradeAt p (i - 1))) new (at - 3)
-    unfolding pool
-    next-grade down pos e = record {
-      inside = omega (arith, inv .inside);
-      room = omega (arith, inv .room);
-      short = omega (arith, inv .short);
-      long = full;
-      rest = b ∷ inv .rest;
-      stored = words;
-      same = rw (down, ← e);
-    }
+  pub waits : grades ≡ waiting (suffix p i) + 1
+  pub stored : drop at items ≡ blockWords (behindWaiting (suffix p i))
 
 abbrev Inv-loop : tie.InvT-loop
-Inv-loop place items₀ i₀ b₀ at₀ items i b at = Pooled (placeIn place) i b items at
+Inv-loop place items₀ i₀ grades₀ at₀ items i grades at = Climbed (placeIn place) items i grades at
 
 abbrev μ-loop : tie.MeasureT-loop
-μ-loop place items₀ i₀ b₀ at₀ items i b at = 6 * i + (120 - at)
+μ-loop place items₀ i₀ grades₀ at₀ items i grades at = i
 
-sized : {w : List ℕ} → HoldsTable w → (1 ≤ placeIn w .grades) × (placeIn w .grades ≤ 40)
-sized {w} h = (omega (arith, h .sound .some, length-grades (placeIn w) 0 (placeIn w .grades)), few-in h)
+-- What the grades passed hold.
+module _ {w items : List ℕ} {i grades at : ℕ} (holds : HoldsTable w) (inv : Climbed (placeIn w) items i grades at) where
+  abbrev p : Place
+  p = placeIn w
 
--- The start of the function, seen from where the first grade is read and from the head of the loop.
-abbrev start : tie.After-grades-of Inv-loop μ-loop → tie.Start Inv-loop μ-loop
-start c = c .before .before
+  sums : Sums (suffix p i) (waiting (suffix p i)) (behindWaiting (suffix p i))
+  sums = behind-sums (suffix p i) (every-suffix Counted p i (inv .inside) (holds .sound .counted))
 
-abbrev head : tie.At-loop Inv-loop μ-loop → tie.Start Inv-loop μ-loop
-head c = c .before .before .before .before .before .before
+  few-wait : grades ≤ 41
+  few-wait = omega (arith, inv .waits, sums .grades, small p i (holds .sound) (inv .inside) .grades)
 
--- What is known of the last grade.
-worst : (c : tie.After-grades-of Inv-loop μ-loop)
-    → (1 ≤ c .grades-of .result) × (c .grades-of .result ≤ 40) × (length (now (start c .args .place)) ≡ 122)
-worst c =
-    let h = start c .pre .0 in
-    let n = sized h in
-    (omega (arith, c .grades-of .ensures), omega (arith, c .grades-of .ensures), h .long)
+  back : blocksIn (drop at items) ≡ behindWaiting (suffix p i)
+  back = ap blocksIn (inv .stored) ∙ blocks-back (behindWaiting (suffix p i))
+
+  -- The next grade.
+  module _ (pos : 0 < i) where
+    here : Turn w i
+    here = turn w i holds pos (inv .inside)
+
+    -- It is empty, and waits.
+    empty : getD w (i - 1) 0 ≡ 0 → Climbed p items (i - 1) (grades + 1) at
+    unfolding waiting behindWaiting
+    empty e =
+        let none = is-empty (gradeAt p (i - 1)) (sym (here .obligors) ∙ e) in
+        record {
+          inside = omega (arith, inv .inside);
+          room = omega (arith, inv .room);
+          short = inv .short;
+          long = inv .long;
+          waits = rw (here .down, none) (omega (arith, inv .waits));
+          stored = rw (here .down, none) (inv .stored);
+        }
+
+    -- It is occupied, and its block is put before the others.
+    module _ (some : 1 ≤ getD w (i - 1) 0) where
+      abbrev next : Block
+      next = block grades (getD w (i - 1) 0) (getD w (40 + (i - 1)) 0)
+
+      fits : Fitting (join next (sumOf (blocksIn (drop at items))))
+      unfolding obligorsIn defaultsIn
+      fits =
+          let s = sums in
+          let t = here .here in
+          let k = small p i (holds .sound) (inv .inside) .grades in
+          rw back (omega (arith, inv .waits), omega (arith, here .obligors), omega (arith, here .defaults))
+
+      occupied : (new : List ℕ) (r : ℕ) → drop r new ≡ blockWords (front next (blocksIn (drop at items))) → length new ≡ 120 → Climbed p new (i - 1) 1 r
+      unfolding waiting behindWaiting
+      occupied new r e l =
+          let is = is-occupied (gradeAt p (i - 1)) (omega (arith, here .obligors)) in
+          let rest = behindWaiting (suffix p i) in
+          let same : next ≡ block (waiting (suffix p i) + 1) (gradeAt p (i - 1) .obligors) (gradeAt p (i - 1) .defaults) =
+          rw (inv .waits, here .obligors, here .defaults) refl in
+          let n = front-length next rest in
+          let now-held = rw back at e in
+          let one = count-words new r (front next rest) now-held in
+          let before = count-words items at rest (inv .stored) in
+          record {
+            inside = omega (arith, inv .inside);
+            room = omega (arith, inv .room, inv .short, inv .long);
+            short = omega arith;
+            long = l;
+            waits = rw (here .down, is) refl;
+            stored = rw (here .down, is) (now-held ∙ ap (λ (b : Block). blockWords (front b rest)) same);
+          }
+
+-- After the best grade: those that still wait belong to the first block.
+module _ {w items : List ℕ} {i grades at : ℕ} (holds : HoldsTable w) (inv : Climbed (placeIn w) items i grades at) (done : i ≡ 0) where
+  abbrev t : Table
+  t = tableIn w
+
+  held : drop at items ≡ blockWords (behindWaiting t)
+  held = rw (suffix-all (placeIn w) i done) at (inv .stored)
+
+  -- There is one.
+  within : at < 120
+  within =
+      omega (arith, behind-some t (holds .sound .some-occupied), count-words items at (behindWaiting t) held, inv .long)
+
+  -- It has no more grades than the table.
+  first-fits : getD items at 0 + (grades - 1) ≤ 40
+  unfolding sumOf
+  first-fits =
+      let f = first items at (behindWaiting t) held (omega (arith, within, inv .long)) in
+      let s = behind-sums t (holds .sound .counted) in
+      let k = rw (suffix-all (placeIn w) i done) at (inv .waits) in
+      omega (arith, rw (f .split) at (s .grades), holds .sound .few)
+
+  finished : drop at (set items at (getD items at 0 + (grades - 1))) ≡ blockWords (spanning t)
+  finished =
+      let k : grades - 1 ≡ waiting t = omega (arith, rw (suffix-all (placeIn w) i done) at (inv .waits)) in
+      rw k (words-lengthened items at (waiting t) (behindWaiting t) held)
+
+-- The start of the function, seen from the head of the loop.
+abbrev begun : tie.At-loop Inv-loop μ-loop → tie.Start Inv-loop μ-loop
+begun c = c .before .before .before
 
 loop-holds : tie.Need-loop-holds Inv-loop μ-loop
-unfolding pool front blockWords
+unfolding waiting behindWaiting blockWords
 loop-holds c =
-    let g = c .before .before .before in
-    let s = start g in
+    let s = c .before .before in
     let p = placeIn (now (s .args .place)) in
-    let n = worst g in
-    let t = turn _ (p .grades) (s .pre .0) (omega (arith, g .grades-of .ensures)) (omega arith) in
+    let few = few-in (s .pre .0) in
+    let none = suffix-end p (c .grades-of .result) (omega (arith, c .grades-of .ensures)) in
     record {
-      inside = omega (arith, g .grades-of .ensures);
-      room = omega arith;
+      inside = omega (arith, c .grades-of .ensures);
+      room = omega (arith, c .grades-of .ensures);
       short = omega arith;
       long = s .pre .1;
-      rest = [];
-      stored = drop-of-length-le (now (s .args .items)) {i = 120} (omega (arith, s .pre .1));
-      same = rw (c .of-grade .ensures, g .grades-of .ensures, read t, t .down, suffix-end p (p .grades) (omega arith));
+      waits = rw none refl;
+      stored = rw none (drop-of-length-le (now (s .args .items)) {i = 120} (omega (arith, s .pre .1)));
     }
+
+near : (c : tie.In-loop Inv-loop μ-loop) → (c .before .loop .i ≤ 40) × (length (now (begun (c .before) .args .place)) ≡ 122)
+near c = let h = begun (c .before) .pre .0 in (omega (arith, c .before .loop .inv .inside, few-in h), h .long)
 
 loop-again : tie.Need-loop-again Inv-loop μ-loop
 loop-again c =
-    let w = c .before .before .before in
-    let a = w .before .before .before .before in
-    let not-below = sym (c .before .before .is-below .ensures) ∙ not-true _ (c .before .if2 .taken) in
-    rw (c .joined .ensures) (joins (a .loop .inv) (w .before .before .before .if1 .taken) _ (w .block-at .ensures) not-below)
+    let l = c .before .before .before in
+    empty (begun l .pre .0) (l .loop .inv) (omega arith) (c .if1 .taken)
 
--- Where no join is made, there is no other block, or the rate is below that of the next.
-kept : (c : tie.Joined1 Inv-loop μ-loop) → Stays (c .before .loop .inv)
-kept c =
-    let inv = c .before .loop .inv in
-    ⊎-elim
-    (λ w. below inv (w .0 .taken) _ (w .3 .ensures) (sym (w .4 .ensures) ∙ not-false _ (w .5 .left)))
-    (λ w. alone inv (w .left))
-    (c .if1 .came)
+-- The block that is put before the others.
+module _ (c : tie.After-shared-slice-known3 Inv-loop μ-loop) where
+  abbrev head : tie.At-loop Inv-loop μ-loop
+  head = c .before .before .before .before
 
-returns : tie.Need-returns Inv-loop μ-loop
-returns c =
-    let a = c .before .before .before .before in
-    let put = c .before .store-block .ensures in
-    let all = suffix-all (placeIn (now (head a .args .place))) (a .loop .i) (c .if3 .taken) in
-    ((words (a .loop .inv) _ put ∙ ap blockWords (kept (c .before .before .before) ∙ ap pool all), omega arith), full (a .loop .inv) _ put)
+  some-here : 1 ≤ getD (now (begun head .args .place)) (head .loop .i - 1) 0
+  some-here = omega (arith, c .before .if1 .left)
+
+put-before-requires : tie.Need-put-before-requires Inv-loop μ-loop
+put-before-requires c κs =
+    let k = c .before in
+    let l = head k in
+    let inv = l .loop .inv in
+    let h = begun l .pre .0 in
+    ((inv .long, omega (arith, inv .room), inv .short), (rw (back h inv) (inv .stored), fits h inv (omega arith) (some-here k)))
 
 loop-again-2 : tie.Need-loop-again-2 Inv-loop μ-loop
 loop-again-2 c =
-    let a = c .before .before .before .before .before .before .before in
-    let t = turn _ (a .loop .i) (head a .pre .0) (omega arith) (omega (arith, a .loop .inv .inside)) in
-    let put = c .before .before .before .before .store-block .ensures in
-    rw (c .of-grade2 .ensures, read t)
-    (next-grade (a .loop .inv) _ put (t .down) (omega arith) (kept (c .before .before .before .before .before .before)))
+    let k = c .before .before in
+    let l = head k in
+    occupied (begun l .pre .0) (l .loop .inv) (omega arith) (some-here k) _ _ (c .put-before .ensures .0) (c .put-before .ensures .1)
+
+-- After the loop.
+module _ (c : tie.After-loop Inv-loop μ-loop) where
+  abbrev last : tie.At-loop Inv-loop μ-loop
+  last = c .before
+
+  over : last .loop .at < 120
+  over = within (begun last .pre .0) (last .loop .inv) (omega arith)
+
+  fits-one : getD (last .loop .items) (last .loop .at) 0 + (last .loop .grades - 1) ≤ 40
+  fits-one = first-fits (begun last .pre .0) (last .loop .inv) (omega arith)
+
+returns : tie.Need-returns Inv-loop μ-loop
+returns c =
+    let l = c .before .before in
+    let inv = l .loop .inv in
+    ((finished (begun l .pre .0) inv (omega (arith, c .before .loop-test .left)), over (c .before)), simp length-set (inv .long))
 
 pub blocks-of-spec : {M : Type 1} → statement M
 blocks-of-spec =
@@ -186,31 +202,22 @@ blocks-of-spec =
     Inv-loop
     μ-loop
     (λ c κs. c .before .pre .0 .long)
-    (λ c. worst c .0)
-    (λ c. let n = worst c in omega arith)
-    (λ c. let n = worst (c .before) in omega arith)
-    (λ c. let n = worst (c .before) in omega arith)
-    (λ c. let n = worst (c .before) in omega arith)
-    (λ c. let n = worst (c .before .before) in omega arith)
-    (λ c κs. tt)
     loop-holds
-    (λ c κs. next (c .before .before .before .loop .inv) (c .before .before .if1 .taken) .room)
-    (λ c κs. tt)
-    (λ c κs.
-    let a = c .before .before .before .before .before .before in
-    fits (a .loop .inv) (c .before .before .before .before .before .if1 .taken) _ (c .before .before .block-at .ensures) (head a .pre .0 .sound))
     (λ c. omega arith)
+    (λ c. let w = near c in omega arith)
+    (λ c. let w = near (c .before) in omega arith)
+    (λ c. let w = few-wait (begun (c .before .before .before) .pre .0) (c .before .before .before .loop .inv) in omega arith)
     (λ c. omega arith)
     loop-again
+    (λ c. let w = near (c .before .before) in omega arith)
+    (λ c. let w = near (c .before .before) in omega arith)
+    (λ c. let w = near (c .before .before .before) in omega arith)
+    put-before-requires
     (λ c. omega arith)
-    (λ c κs. omega arith)
-    returns
-    (λ c. omega arith)
-    (λ c. omega arith)
-    (λ c. omega (arith, head (c .before .before .before .before .before) .pre .0 .long))
-    (λ c. omega arith)
-    (λ c. omega arith)
-    (λ c. omega (arith, head (c .before .before .before .before .before .before) .pre .0 .long))
-    (λ c κs. tt)
-    (λ c. omega arith)
-    loop-again-2)
+    loop-again-2
+    (λ c. omega (arith, c .before .loop .inv .waits))
+    (λ c. omega (arith, over c))
+    (λ c. over c)
+    (λ c. omega (arith, fits-one (c .before)))
+    (λ c. over (c .before))
+    returns)

@@ -12,15 +12,17 @@ use lib.ListN.{length, take, drop, take-append-drop, drop-of-length-le}
 use Rattle.table.specs.Words.{placeIn, tableIn}
 use Rattle.table.proofs.Suffix.{length-grades}
 use Rattle.table.proofs.Words.{few-in}
-use Rattle.pooling.specs.Pool.{Block, Rising, pool}
-use Rattle.pooling.specs.Private.{blockWords}
+use Rattle.pooling.specs.Pool.{Block, Rising}
+use Rattle.pooling.specs.Private.{spanning, sumOf, blockWords}
 use Rattle.pooling.specs.Band.{bandOf}
 use Rattle.pooling.specs.Limits.{listedLimits}
 use Rattle.pooling.specs.Numbers.{gradesOf, numbersOf}
-use Rattle.pooling.proofs.Front.{pool-rising, rising-drop}
+use Rattle.pooling.proofs.Front.{rising-drop}
 use Rattle.pooling.proofs.Bands.{band-right, bands-rise}
 use Rattle.pooling.proofs.Words.{nth, nth-from, Between, Last, last, at-end}
-use Rattle.pooling.proofs.Joined.{sumOf, grades-count, grades-drop}
+use Rattle.pooling.proofs.Joined.{grades-drop}
+use Rattle.pooling.proofs.Spanning.{spanning-rising, spanning-numbers, spanning-count}
+use Rattle.pooling.proofs.Written.{numbers-rest}
 use Rattle.pooling.proofs.Backwards.{put-more}
 use Rattle.pooling.proofs.pool.Statement.{statement}
 use Rattle.pooling.proofs.pool.Tie as tie
@@ -41,7 +43,7 @@ record Written (bs : List Block) (items : List ℕ) (start end₀ : ℕ) (out₀
 
 abbrev Inv-loop : tie.InvT-loop
 Inv-loop place out₀ limits items start end₀ at₀ band₀ out end at band =
-    (start < at) × Written (pool (tableIn place)) items start end₀ out₀ out end at band
+    (start < at) × Written (spanning (tableIn place)) items start end₀ out₀ out end at band
 
 abbrev μ-loop : tie.MeasureT-loop
 μ-loop place out₀ limits items start end₀ at₀ band₀ out end at band = at
@@ -71,7 +73,7 @@ abbrev begun : tie.At-loop Inv-loop μ-loop → tie.Start Inv-loop μ-loop
 begun c = c .before .before .before .before .before .before
 
 abbrev blocks : tie.At-loop Inv-loop μ-loop → List Block
-blocks c = pool (tableIn (now (begun c .args .place)))
+blocks c = spanning (tableIn (now (begun c .args .place)))
 
 abbrev items : tie.At-loop Inv-loop μ-loop → List ℕ
 items c = c .before .before .blocks-of .last .1 .0
@@ -115,21 +117,21 @@ loop-holds c =
     let w = now (s .args .place) in
     let t = tableIn w in
     let r = c .before .blocks-of in
-    let between = at-end (r .last .1 .0) (pool t) (r .result) 120 (r .ensures .0 .0) (omega (arith, r .ensures .0 .1)) (r .ensures .1) in
+    let between = at-end (r .last .1 .0) (spanning t) (r .result) 120 (r .ensures .0 .0) (omega (arith, r .ensures .0 .1)) (r .ensures .1) in
     let n : length t ≡ c .grades-of .result = rw (c .grades-of .ensures) (length-grades (placeIn w) 0 (placeIn w .grades)) in
-    let none = drop-of-length-le (pool t) {i = length (pool t)} (omega arith) in (
+    let none = drop-of-length-le (spanning t) {i = length (spanning t)} (omega arith) in (
       r .ensures .0 .1,
       record {
         held = r .ensures .0 .0;
         full = r .ensures .1;
         between = between;
-        rising = pool-rising t;
-        all = omega (arith, n, grades-count t);
+        rising = spanning-rising t;
+        all = omega (arith, n, spanning-count t (s .pre .0 .sound .counted) (s .pre .0 .sound .some-occupied));
         small = omega (arith, n, s .pre .0 .sound .few);
         room = omega (arith, n, s .pre .1);
         long = refl;
         few = omega arith;
-        most = λ _. omega (arith, band-right (nth (pool t) (length (pool t) - 1)) .within);
+        most = λ _. omega (arith, band-right (nth (spanning t) (length (spanning t) - 1)) .within);
         count = rw none (omega arith);
         same = rw (none, take-append-drop);
       },
@@ -184,11 +186,12 @@ returns : tie.Need-returns Inv-loop μ-loop
 returns c =
     let d = c .before .before .before in
     let w = written d in
+    let sound = begun (top d) .pre .0 .sound in
     let t = tableIn (now (begun (top d) .args .place)) in
     let none : w .between .count ≡ 0 = omega (arith, c .if1 .taken, w .between .same) in
     let whole : ends d ≡ 0 = omega (arith, w .all, rw none at (w .count)) in
-    let all : 3 * length t ≡ 3 * top d .before .grades-of .result = omega (arith, w .all, grades-count t) in
-    rw all (rw (none, whole) at (w .same))
+    let all : 3 * length t ≡ 3 * top d .before .grades-of .result = omega (arith, w .all, spanning-count t (sound .counted) (sound .some-occupied)) in
+    rw (all, ← spanning-numbers t (sound .some-occupied), ← numbers-rest (spanning t) _) (rw (none, whole) at (w .same))
 
 pub pool-spec : {M : Type 1} → statement M
 pool-spec =

@@ -1,27 +1,24 @@
 -- `spread_of` meets its contract: D and S make N, and the pooled scale is a table.
-use Prim.Native.Nat.{ℕ, _-_, _≤_}
+use Prim.Native.Nat.{ℕ, _-_}
 use mathlib.Core.Path.{_≡_, refl}
-use mathlib.Core.List.{List, [], _∷_}
+use mathlib.Core.List.{List}
 use native.Mathlib.Omega.{arith}
 use borrow.Author.Needs.{needs}
 use denote.Ref.{now}
-use lib.ListN.{length, take, drop}
-use Rattle.table.specs.Table.{Table, Every, Occupied, defaultsIn, survivorsIn, obligorsIn}
+use lib.ListN.{take, drop}
+use Rattle.table.specs.Table.{Table, defaultsIn, survivorsIn, obligorsIn}
 use Rattle.table.specs.Words.{tableIn}
 use Rattle.table.specs.Counts.{totalsOf}
+use Rattle.table.proofs.Occupied.{someone}
 use Rattle.table.proofs.Sums.{obligors-split}
-use Rattle.pooling.specs.Pool.{pool}
-use Rattle.pooling.specs.Private.{blockWords}
-use Rattle.pooling.proofs.Scale.{pooled-sound}
+use Rattle.pooling.specs.Pool.{blocks}
+use Rattle.pooling.specs.Private.{spanning, blockWords}
+use Rattle.pooling.proofs.Scale.{scale-occupied, pooled-sound}
+use Rattle.pooling.proofs.Spanning.{spanning-scale}
 use Rattle.pooling.proofs.Words.{blocks-back, words-part}
+use Rattle.spread.proofs.Exact.{same-residual}
 use Rattle.spread.proofs.spread_of.Statement.{statement}
 use Rattle.spread.proofs.spread_of.Tie as tie
-
--- N is at least 1.
-some : (t : Table) → 1 ≤ length t → Every Occupied t → 1 ≤ obligorsIn t
-unfolding obligorsIn
-some [] h o = h
-some (r ∷ t) h o = omega arith
 
 -- The start of the function, and the table that it is called with.
 abbrev start : tie.After-blocks-of → tie.Start
@@ -35,19 +32,20 @@ unfolding totalsOf
 quotient-requires c κs =
     let t = table c in
     let sound = start c .pre .sound in
-    rw (c .before .before .totals-of .ensures) (omega (arith, obligors-split t (sound .counted)), (some t (sound .some) (sound .occupied), sound .total))
+    rw (c .before .before .totals-of .ensures) (omega (arith, obligors-split t (sound .counted)), (someone t (sound .some-occupied), sound .total))
 
 -- The part of the array that is lent holds the blocks.
 abbrev items : tie.After-blocks-of → List ℕ
 items c = c .blocks-of .last .1 .0
 
-part : (c : tie.After-blocks-of) → take (120 - c .blocks-of .result) (drop (c .blocks-of .result) (items c)) ≡ blockWords (pool (table c))
+part : (c : tie.After-blocks-of) → take (120 - c .blocks-of .result) (drop (c .blocks-of .result) (items c)) ≡ blockWords (spanning (table c))
 part c = words-part (items c) (c .blocks-of .result) 120 _ (c .blocks-of .ensures .0 .0) (c .blocks-of .ensures .1)
 
 residual-requires : tie.Need-residual-requires
 residual-requires c κs =
     let a = c .before .before .before in
-    rw (part a, blocks-back (pool (table a))) (refl, pooled-sound (table a) (start a .pre .sound))
+    let t = table a in
+    rw (part a, blocks-back (spanning t)) (refl, rw (spanning-scale t) (pooled-sound t (start a .pre .sound), scale-occupied t))
 
 returns : tie.Need-returns
 unfolding totalsOf
@@ -57,7 +55,7 @@ returns c =
     let left : obligorsIn t - defaultsIn t ≡ survivorsIn t = omega (arith, obligors-split t (start a .pre .sound .counted)) in
     record {
       total = rw (a .before .before .totals-of .ensures, left) at (c .before .before .before .quotient .ensures);
-      residual = rw (part a, blocks-back (pool t)) at (c .residual .ensures);
+      residual = rw (part a, blocks-back (spanning t), same-residual (spanning t) (blocks t) (spanning-scale t)) at (c .residual .ensures);
     }
 
 pub spread-of-spec : {M : Type 1} → statement M

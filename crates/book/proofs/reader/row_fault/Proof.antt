@@ -15,11 +15,7 @@ returns-2 c = found (pass (omega arith) (over (omega arith)))
 
 returns-3 : tie.Need-returns-3
 unfolding rowChecks
-returns-3 c = found (pass (omega arith) (pass (omega arith) (over (omega arith))))
-
-returns-4 : tie.Need-returns-4
-unfolding rowChecks
-returns-4 c = found (pass (omega arith) (pass (omega arith) (pass (omega arith) none)))
+returns-3 c = found (pass (omega arith) (pass (omega arith) none))
 
 pub row-fault-spec : {M : Type 1} → statement M
-row-fault-spec = tie.close (tie.spec returns returns-2 returns-3 returns-4)
+row-fault-spec = tie.close (tie.spec returns returns-2 returns-3)

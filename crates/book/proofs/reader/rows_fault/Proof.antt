@@ -7,6 +7,7 @@ use native.Mathlib.Numerals.{add-one}
 use native.Mathlib.Omega.{arith}
 use borrow.Author.Needs.{needs}
 use Rattle.table.specs.Table.{Table, Grade, obligorsIn}
+use Rattle.table.proofs.Occupied.{some-grade}
 use Rattle.table.proofs.Sums.{obligors-append}
 use Rattle.book.specs.declared.Row.{Row}
 use Rattle.book.specs.Checks.{fault}
@@ -14,7 +15,7 @@ use Rattle.book.specs.Layout.{gradesAt, kindAt}
 use Rattle.book.specs.Rows.{gradeIn, gradesIn, tableFrom, rowChecks, rowsFault, totalChecks, tableFault}
 use Rattle.book.specs.Private.{gradeOf, cappedGrade}
 use Rattle.book.proofs.Checks.{found, none, pass, over, first-none, first-some}
-use Rattle.book.proofs.Rows.{rows-end, rows-at, rows-more, cappedTable, capped-more, capped-le, capped-exact, capped-fault, by-rows, by-total}
+use Rattle.book.proofs.Rows.{rows-end, rows-at, rows-more, cappedTable, capped-more, capped-le, capped-exact, capped-fault, all-empty, by-rows, by-total}
 use Rattle.book.proofs.reader.rows_fault.Statement.{statement}
 use Rattle.book.proofs.reader.rows_fault.Tie as tie
 
@@ -59,33 +60,37 @@ turn b start total at i n r inv h few w e en =
       };
     }
 
--- after the last row
-record Ended (b : List ℕ) (start total : ℕ) : Type 0 where
-  pub faultless : rowsFault (tableFrom b start) ≡ 0
-  pub sum : total ≡ obligorsIn (cappedTable (tableFrom b start))
+-- after the last row: the total of the capped rows is N, or both are over the limit
+record Ended (t : Table) (total : ℕ) : Type 0 where
+  pub faultless : rowsFault t ≡ 0
+  pub low : total ≤ obligorsIn t
+  pub exact : total ≤ 1_000_000 → total ≡ obligorsIn t
 
-ended : (b : List ℕ) (start total at i : ℕ) → Swept b start total at i → gradesAt b start ≤ i → Ended b start total
+ended : (b : List ℕ) (start total at i : ℕ) → Swept b start total at i → gradesAt b start ≤ i → Ended (tableFrom b start) total
 unfolding rowsFault
 ended b start total at i inv h =
+    let t = tableFrom b start in
     let e : i ≡ gradesAt b start = omega (arith, inv .to) in
+    let s : total ≡ obligorsIn (cappedTable t) = rw e at (inv .sum) in
     record {
       faultless = sym (rw (rows-end b (kindAt b start) (gradesAt b start) i at h) at (inv .faults));
-      sum = rw e at (inv .sum);
+      low = omega (arith, capped-le t);
+      exact = λ l. s ∙ ap obligorsIn (capped-exact t (omega arith));
     }
 
-above : (b : List ℕ) (start total : ℕ) → Ended b start total → 1_000_000 < total → 11 ≡ tableFault (tableFrom b start)
+nobody : (t : Table) (total : ℕ) → Ended t total → total < 1 → 9 ≡ tableFault t
 unfolding totalChecks
-above b start total f h =
-    let t = tableFrom b start in
-    by-total t 11 (f .faultless) (found (over (omega (arith, capped-le t, f .sum))))
+nobody t total f h = by-total t 9 (f .faultless) (found (over (all-empty t (omega (arith, f .exact (omega arith))))))
 
-within : (b : List ℕ) (start total : ℕ) → Ended b start total → total ≤ 1_000_000 → 0 ≡ tableFault (tableFrom b start)
+within : (t : Table) (total : ℕ) → Ended t total → 1 ≤ total → total ≤ 1_000_000 → 0 ≡ tableFault t
 unfolding totalChecks
-within b start total f h =
-    let t = tableFrom b start in
-    let s = capped-exact t (omega (arith, f .sum)) in
-    let g = rw s at (f .sum) in
-    by-total t 0 (f .faultless) (found (pass (omega (arith, g)) none))
+within t total f some h =
+    by-total t 0 (f .faultless) (found (pass (some-grade t (omega (arith, f .low))) (pass (omega (arith, f .exact h)) none)))
+
+above : (t : Table) (total : ℕ) → Ended t total → 1_000_000 < total → 11 ≡ tableFault t
+unfolding totalChecks
+above t total f h =
+    by-total t 11 (f .faultless) (found (pass (some-grade t (omega (arith, f .low))) (over (omega (arith, f .low)))))
 
 abbrev Inv-loop : tie.InvT-loop
 Inv-loop b start grades kind total₀ at₀ i₀ total at i = Swept b start total at i
@@ -118,10 +123,13 @@ loop-again : tie.Need-loop-again Inv-loop μ-loop
 loop-again c = now-at (c .before .before) .goes (c .before .if1 .left)
 
 returns-2 : tie.Need-returns-2 Inv-loop μ-loop
-returns-2 c = within _ _ _ (ended _ _ _ _ _ (c .before .before .loop .inv) (omega arith)) (c .if2 .taken)
+returns-2 c = nobody _ _ (ended _ _ _ _ _ (c .before .before .loop .inv) (omega arith)) (omega arith)
 
 returns-3 : tie.Need-returns-3 Inv-loop μ-loop
-returns-3 c = above _ _ _ (ended _ _ _ _ _ (c .before .before .loop .inv) (omega arith)) (c .if2 .left)
+returns-3 c = within _ _ (ended _ _ _ _ _ (c .before .before .before .loop .inv) (omega arith)) (omega arith) (c .if3 .taken)
+
+returns-4 : tie.Need-returns-4 Inv-loop μ-loop
+returns-4 c = above _ _ (ended _ _ _ _ _ (c .before .before .before .loop .inv) (omega arith)) (c .if3 .left)
 
 pub rows-fault-spec : {M : Type 1} → statement M
 rows-fault-spec =
@@ -143,6 +151,7 @@ rows-fault-spec =
     (λ c. omega arith)
     (λ c. omega arith)
     loop-again
-    (λ c. search needs)
     returns-2
-    returns-3)
+    (λ c. search needs)
+    returns-3
+    returns-4)
