@@ -1,6 +1,6 @@
 -- What accepted calls on a sound desk do: pool writes the monotone regression and repeats it for empty grades, measures has a mixed table, what
 -- write leaves is loaded again, and a book whose tables are loaded is written again.
-use Prim.Native.Nat.{ℕ, _-_, _≤_, _<_}
+use Prim.Native.Nat.{ℕ, _-_, _≤_}
 use mathlib.Core.Path.{_≡_, refl, sym, ap, _∙_}
 use mathlib.Core.List.{List, [], _++_}
 use lib.ListN.{length, take, drop, getD}
@@ -18,7 +18,7 @@ use Rattle.book.proofs.RoundTrip.{round-trip}
 use Rattle.book.proofs.Again.{written-again}
 use Rattle.pooling.specs.Numbers.{ratesAtOccupied}
 use Rattle.pooling.specs.Regression.{IsRegression}
-use Rattle.pooling.specs.Claims.{OccupiedAt, EmptyAt, numbersAt}
+use Rattle.pooling.specs.Claims.{RepeatsNextBetter, RepeatsBest}
 use Rattle.pooling.proofs.LeastSquares.{pooled-regression}
 use Rattle.pooling.proofs.Repeating.{next-better, best-occupied}
 use Rattle.pooling.proofs.Written.{rates-written}
@@ -39,15 +39,9 @@ regression-written d s i out e =
     let t = tableAt d i in
     rw (e, rates-written t out) (pooled-regression (occupied t) (all-occupied t))
 
-pub next-better-written : (d : Desk) (p : ℕ) (out : List ℕ) → numberOf d (fill p pool out) ≡ 0
-    → (i j : ℕ) → j < i → OccupiedAt (tableAt d p) j → ((k : ℕ) → j < k → k ≤ i → EmptyAt (tableAt d p) k)
-    → numbersAt i (lentAfter d (fill p pool out)) ≡ numbersAt j (lentAfter d (fill p pool out))
-next-better-written d p out e i j l o h = rw e (next-better (tableAt d p) out i j l o h)
-
-pub best-written : (d : Desk) (p : ℕ) (out : List ℕ) → numberOf d (fill p pool out) ≡ 0
-    → (i j : ℕ) → i < j → OccupiedAt (tableAt d p) j → ((k : ℕ) → k < j → EmptyAt (tableAt d p) k)
-    → numbersAt i (lentAfter d (fill p pool out)) ≡ numbersAt j (lentAfter d (fill p pool out))
-best-written d p out e i j l o h = rw e (best-occupied (tableAt d p) out i j l o h)
+pub repeats-written : (d : Desk) (i : ℕ) (out : List ℕ) → numberOf d (fill i pool out) ≡ 0
+    → RepeatsNextBetter (tableAt d i) (lentAfter d (fill i pool out)) × RepeatsBest (tableAt d i) (lentAfter d (fill i pool out))
+repeats-written d i out e = rw e (next-better (tableAt d i) out, best-occupied (tableAt d i) out)
 
 pub measured-mixed : (d : Desk) → SoundDesk d → (i : ℕ) → numberOf d (ask i measures) ≡ 0 → Mixed (tableAt d i)
 unfolding questionFault

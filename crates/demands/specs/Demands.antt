@@ -1,6 +1,6 @@
 -- The customer's three demands, each sentence by a name, over all calls and all lists of calls from a fresh desk.
 -- The contract of `demands` in src/lib.rt is all of them, so that the crate is refused where one is not proved.
-use Prim.Native.Nat.{ℕ, _-_, _≤_, _<_}
+use Prim.Native.Nat.{ℕ, _-_, _≤_}
 use mathlib.Core.Path.{_≡_}
 use mathlib.Core.Bool.{false}
 use mathlib.Core.Logic.{_⊎_}
@@ -16,7 +16,7 @@ use Rattle.book.specs.Encode.{bookSize}
 use Rattle.book.specs.Claims as book
 use Rattle.pooling.specs.Numbers.{ratesAtOccupied}
 use Rattle.pooling.specs.Regression.{IsRegression}
-use Rattle.pooling.specs.Claims.{OccupiedAt, EmptyAt, numbersAt}
+use Rattle.pooling.specs.Claims.{RepeatsNextBetter, RepeatsBest}
 use Rattle.cutoff.specs.Verdict.{Settles}
 use Rattle.cutoff.specs.declared.Verdict.{Verdict}
 use Rattle.cutoff.specs.Claims as cutoff
@@ -140,20 +140,12 @@ PoolWritesTheRegression =
     (d : Desk) → SoundDesk d → (i : ℕ) (out : List ℕ) → numberOf d (fill i pool out) ≡ 0
     → IsRegression (occupied (tableAt d i)) (ratesAtOccupied (tableAt d i) (lentAfter d (fill i pool out)))
 
--- R-4: "Pool repeats for it the three numbers of the next better occupied grade": in what an accepted pool leaves, of grade i, where j is
--- occupied and all from there to i are empty;
-abbrev pub PoolRepeatsTheNextBetter : Type 0
-PoolRepeatsTheNextBetter =
-    (d : Desk) (p : ℕ) (out : List ℕ) → numberOf d (fill p pool out) ≡ 0
-    → (i j : ℕ) → j < i → OccupiedAt (tableAt d p) j → ((k : ℕ) → j < k → k ≤ i → EmptyAt (tableAt d p) k)
-    → numbersAt i (lentAfter d (fill p pool out)) ≡ numbersAt j (lentAfter d (fill p pool out))
-
--- "or of the best occupied grade if none is better".
-abbrev pub PoolRepeatsTheBest : Type 0
-PoolRepeatsTheBest =
-    (d : Desk) (p : ℕ) (out : List ℕ) → numberOf d (fill p pool out) ≡ 0
-    → (i j : ℕ) → i < j → OccupiedAt (tableAt d p) j → ((k : ℕ) → k < j → EmptyAt (tableAt d p) k)
-    → numbersAt i (lentAfter d (fill p pool out)) ≡ numbersAt j (lentAfter d (fill p pool out))
+-- R-4: "Pool repeats for it the three numbers of the next better occupied grade, or of the best occupied grade if none is better": in what an
+-- accepted pool leaves.
+abbrev pub PoolRepeatsForEmptyGrades : Type 0
+PoolRepeatsForEmptyGrades =
+    (d : Desk) (i : ℕ) (out : List ℕ) → numberOf d (fill i pool out) ≡ 0
+    → RepeatsNextBetter (tableAt d i) (lentAfter d (fill i pool out)) × RepeatsBest (tableAt d i) (lentAfter d (fill i pool out))
 
 -- Demand 3.
 
@@ -200,8 +192,7 @@ pub record Demands : Type 0 where
   pub measures-are-published : MeasuresArePublished
   pub measured-tables-are-mixed : MeasuredTablesAreMixed
   pub pool-writes-the-regression : PoolWritesTheRegression
-  pub pool-repeats-the-next-better : PoolRepeatsTheNextBetter
-  pub pool-repeats-the-best : PoolRepeatsTheBest
+  pub pool-repeats-for-empty-grades : PoolRepeatsForEmptyGrades
   pub compare-is-right : CompareIsRight
   pub every-table-has-one-cheapest-cost : EveryTableHasOneCheapestCost
   pub pooling-keeps-the-cheapest-cost : PoolingKeepsTheCheapestCost

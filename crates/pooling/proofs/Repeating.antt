@@ -9,7 +9,7 @@ use lib.ListN.{length, getD, drop, length-drop}
 use Rattle.table.specs.Table.{Table, Grade, Every, Occupied, occupied}
 use Rattle.table.proofs.Occupied.{by-grade, is-occupied, is-empty}
 use Rattle.pooling.specs.Numbers.{three, ownNumbers, repeating, pooledNumbers, pooledInto, numbersAtOccupied}
-use Rattle.pooling.specs.Claims.{OccupiedAt, EmptyAt, numbersAt}
+use Rattle.pooling.specs.Claims.{OccupiedAt, EmptyAt, numbersAt, RepeatsNextBetter, RepeatsBest}
 
 -- One grade more in front.
 
@@ -97,15 +97,13 @@ module _ (rest : List ℕ) where
   first-at x y z own (r ∷ t) zero o h = rw (repeating-occupied (x ∷ y ∷ z ∷ []) own r t o) refl
   first-at x y z own (r ∷ t) (suc j) o h = at-empty j x y z own r t (h 0 (omega arith) .1) ∙ first-at x y z own t j o (rest-empty r t j h)
 
-pub best-occupied : (t : Table) (out : List ℕ) (i j : ℕ) → i < j → OccupiedAt t j → ((k : ℕ) → k < j → EmptyAt t k)
-    → numbersAt i (pooledInto t out) ≡ numbersAt j (pooledInto t out)
+pub best-occupied : (t : Table) (out : List ℕ) → RepeatsBest t (pooledInto t out)
 unfolding pooledNumbers
 best-occupied t out i j l o h =
     let rest = drop (3 * length t) out in
     lead-at rest _ _ _ (ownNumbers t) t i (λ k m. h k (omega arith)) ∙ sym (first-at rest _ _ _ (ownNumbers t) t j o h)
 
-pub next-better : (t : Table) (out : List ℕ) (i j : ℕ) → j < i → OccupiedAt t j → ((k : ℕ) → j < k → k ≤ i → EmptyAt t k)
-    → numbersAt i (pooledInto t out) ≡ numbersAt j (pooledInto t out)
+pub next-better : (t : Table) (out : List ℕ) → RepeatsNextBetter t (pooledInto t out)
 unfolding pooledNumbers
 next-better t out i j l o h =
     let own = ownNumbers t in

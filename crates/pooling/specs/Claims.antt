@@ -68,17 +68,22 @@ EmptyAt t i = (i < length t) × (getD t i blank .obligors ≡ 0)
 abbrev pub numbersAt : ℕ → List ℕ → List ℕ
 numbersAt i out = three (drop (3 * i) out)
 
--- R-4: "Pool repeats for it the three numbers of the next better occupied grade": j is occupied, and from there to i all are empty;
-abbrev pub EmptyGradesRepeatTheNextBetter : Type 0
-EmptyGradesRepeatTheNextBetter =
-    (t : Table) (out : List ℕ) (i j : ℕ) → j < i → OccupiedAt t j → ((k : ℕ) → j < k → k ≤ i → EmptyAt t k)
-    → numbersAt i (pooledInto t out) ≡ numbersAt j (pooledInto t out)
+-- In the numbers of t, each empty grade i has those of the next better occupied one: j is occupied, and from there to i all are empty.
+abbrev pub RepeatsNextBetter : Table → List ℕ → Type 0
+RepeatsNextBetter t out =
+    (i j : ℕ) → j < i → OccupiedAt t j → ((k : ℕ) → j < k → k ≤ i → EmptyAt t k) → numbersAt i out ≡ numbersAt j out
 
--- "or of the best occupied grade if none is better": j is occupied, and all before it are empty.
+-- Each that no occupied one is better than has those of the best occupied one: j is occupied, and all before it are empty.
+abbrev pub RepeatsBest : Table → List ℕ → Type 0
+RepeatsBest t out = (i j : ℕ) → i < j → OccupiedAt t j → ((k : ℕ) → k < j → EmptyAt t k) → numbersAt i out ≡ numbersAt j out
+
+-- R-4: "Pool repeats for it the three numbers of the next better occupied grade,
+abbrev pub EmptyGradesRepeatTheNextBetter : Type 0
+EmptyGradesRepeatTheNextBetter = (t : Table) (out : List ℕ) → RepeatsNextBetter t (pooledInto t out)
+
+-- or of the best occupied grade if none is better."
 abbrev pub EmptyGradesRepeatTheBest : Type 0
-EmptyGradesRepeatTheBest =
-    (t : Table) (out : List ℕ) (i j : ℕ) → i < j → OccupiedAt t j → ((k : ℕ) → k < j → EmptyAt t k)
-    → numbersAt i (pooledInto t out) ≡ numbersAt j (pooledInto t out)
+EmptyGradesRepeatTheBest = (t : Table) (out : List ℕ) → RepeatsBest t (pooledInto t out)
 
 -- The squared error of any never-falling q is at least that of the pooled rates and the squared distance of q from them.
 abbrev pub ErrorIsAtLeast : Type 0

@@ -10,7 +10,7 @@ use Rattle.demands.proofs.History.{places-hold, tables-sound, desk-soun
 use Rattle.demands.proofs.Faults.{answered, never-five}
 use Rattle.demands.proofs.Loads.{load-tells, load-means, load-takes, load-means-empty}
 use Rattle.demands.proofs.Kept.{refused-kept, written-only, others-kept}
-use Rattle.demands.proofs.Accepted.{regression-written, next-better-written, best-written, measured-mixed, loads-back, writes-back}
+use Rattle.demands.proofs.Accepted.{regression-written, repeats-written, measured-mixed, loads-back, writes-back}
 use Rattle.demands.proofs.Verdicts.{compare-right}
 use Rattle.demands.proofs.demands.Statement.{statement}
 use Rattle.demands.proofs.demands.Tie as tie
@@ -43,8 +43,7 @@ returns c = record {
   );
   measured-tables-are-mixed = measured-mixed;
   pool-writes-the-regression = regression-written;
-  pool-repeats-the-next-better = next-better-written;
-  pool-repeats-the-best = best-written;
+  pool-repeats-for-empty-grades = repeats-written;
   compare-is-right = compare-right;
   every-table-has-one-cheapest-cost = (cheapest-is, cheapest-unique);
   pooling-keeps-the-cheapest-cost = pooled-costs-same;
