@@ -3,10 +3,10 @@
  *
  * TERMS. A rating scale sorts its obligors into grades, best first. Of a grade's n obligors d defaulted and s = n - d survived;
  * its announced rate is the default rate that the rater states for it, in ppm (millionths: 0.5% is 5000). A grade table has
- * 1 to 40 grades, d at most n in each, and announced rates of at most 1,000,000; its totals are N, D and S, N at most 1,000,000.
- * A grade with n 0 is empty, and at least one grade is occupied, with n at least 1. Empty grades add nothing to any count, are
- * numbered as grades all the same, and have no default rate of their own: who divides by n has to look for 0. A desk has two
- * places, 1 and 2, each empty or holding one rater's table.
+ * 1 to 40 grades, d at most n in each, and announced rates of at most 1,000,000, none below that of the grade before; its totals
+ * are N, D and S, N at most 1,000,000. A grade with n 0 is empty, and at least one grade is occupied, with n at least 1. Empty
+ * grades add nothing to any count, are numbered as grades all the same, have an announced rate as any other, and have no default
+ * rate of their own: who divides by n has to look for 0. A desk has two places, 1 and 2, each empty or holding one rater's table.
  * - Cutoff g, 0 to the number of grades, turns away the g worst grades, empty ones among them. At prices u and v it costs u for
  *   each default that it misses (in a grade that it does not turn away) and v for each survivor that it turns away.
  * - Blocks are runs of neighbouring grades, the empty ones left out, rate = block defaults / block obligors, so cut that the rates
@@ -50,7 +50,7 @@
  * version does not link: the linker reports desk_library_is_version_N as undefined, N being the number below. Then take
  * header and library of one version and compile again. Who loads the library at run time by hand, and so does not link with
  * it, defines DESK_LOADED_BY_HAND before this header and compares desk_version() with DESK_VERSION. */
-#define DESK_VERSION 5
+#define DESK_VERSION 6
 
 #define DESK_GRADES 40            /* the most grades of a table */
 #define DESK_MAX_OBLIGORS 1000000 /* the most obligors of a table */
@@ -80,7 +80,8 @@
     X(DESK_REFUSED_UNLIKE, 25, "D or S differ between the places (D: defaults, S: survivors)") \
     X(DESK_REFUSED_TABLE_START, 31, "a table starts elsewhere than where the last one ended") \
     X(DESK_REFUSED_TABLE_END, 32, "a table runs past the end, in header or rows") \
-    X(DESK_REFUSED_LEFTOVER, 33, "bytes after the last table")
+    X(DESK_REFUSED_LEFTOVER, 33, "bytes after the last table") \
+    X(DESK_REFUSED_FALLING_RATE, 34, "announced rate below that of the row before")
 #define DESK_CONSTANT(constant, number, meaning) constant = number,
 enum { DESK_REFUSALS(DESK_CONSTANT) };
 
@@ -143,7 +144,7 @@ uint32_t desk_empty(Desk *desk);
  * make the losing scale win. After 31, 32 and 33, where a book is cut wrong, desk_wrong_cut says which table to look at, and where.
  * Writes: the place. Keeps: the other place, the book.
  * Refuses: 1, 21, 2, 3, 4; table by table 31 (start), 32 (header), 6, 7, 32 (rows); 33 (bytes left over); of the rater's rows,
- * one by one, 8, 10; 9 (all are empty); 11. */
+ * one by one, 8, 10, 34; 9 (all are empty); 11. */
 uint32_t desk_load(Desk *desk, uint32_t place, const uint8_t *book, size_t length, uint32_t rater) DESK_CHECKED;
 
 /* Empties a loaded place.
@@ -224,7 +225,7 @@ static inline void desk_lay_out(DeskBook *book, DeskCounts counts, const DeskRow
 /* Makes a book of one table from rows: for a file, or to load later as rater 1 with desk_load.
  * rows has `grades` elements; with 0 or more than 40 of them none is read, and rows may be null.
  * Writes: book->length, and as many of book->bytes. Keeps: further bytes, the rows.
- * Refuses as desk_load of that book would: 6, 7 (counts is neither); of the rows, one by one, 8, 10; 9 (all are empty); 11. */
+ * Refuses as desk_load of that book would: 6, 7 (counts is neither); of the rows, one by one, 8, 10, 34; 9 (all are empty); 11. */
 DESK_CHECKED static inline uint32_t desk_book(DeskBook *book, DeskCounts counts, const DeskRow *rows, size_t grades)
 {
     Desk desk;
@@ -243,7 +244,7 @@ DESK_CHECKED static inline uint32_t desk_book(DeskBook *book, DeskCounts counts,
 /* Fills an empty place with a table of rows, as desk_load does with their book.
  * rows has `grades` elements; with 0 or more than 40 of them none is read, and rows may be null.
  * Writes: the place. Keeps: the other place, the rows.
- * Refuses: 1, 21, 6, 7 (counts is neither); of the rows, one by one, 8, 10; 9 (all are empty); 11. */
+ * Refuses: 1, 21, 6, 7 (counts is neither); of the rows, one by one, 8, 10, 34; 9 (all are empty); 11. */
 DESK_CHECKED static inline uint32_t desk_load_rows(Desk *desk, uint32_t place, DeskCounts counts, const DeskRow *rows, size_t grades)
 {
     DeskBook laid_out;

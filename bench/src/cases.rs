@@ -89,9 +89,9 @@ fn half_empty() -> Table {
 
 /// The same rows in another order: D and S stay.
 fn shuffled(of: &Table, seed: u64) -> Table {
-    let mut shuffled = of.clone();
-    Random::of_seed(seed).shuffle(&mut shuffled.grades);
-    shuffled
+    let mut rows: Vec<_> = of.grades.iter().map(|grade| (grade.obligors, grade.defaults)).collect();
+    Random::of_seed(seed).shuffle(&mut rows);
+    table(&rows)
 }
 
 /// The rising table with one default more in a grade and one less in the next: the two are less well told apart, D and S stay.

@@ -10,7 +10,7 @@
 #include <stdlib.h>
 #include <string.h>
 
-enum { MILLION = 1000000, KEPT = 0xA5, CASES = 40000, REFUSALS = 32 };
+enum { MILLION = 1000000, KEPT = 0xA5, CASES = 40000, REFUSALS = 35 };
 #define LENGTH(array) (sizeof(array) / sizeof *(array))
 
 typedef struct {
@@ -22,6 +22,7 @@ typedef struct {
 static int failures = 0;
 static size_t answered[REFUSALS]; /* how often desk_load_rows answered each number */
 static size_t with_empty_grades;  /* how often it accepted a table with an empty grade */
+static size_t with_equal_rates;   /* and one with equal announced rates in neighbouring grades */
 
 static void holds(bool fact, const char *text, uint32_t place, const Table *table)
 {
@@ -56,15 +57,27 @@ static uint64_t obligors_of(const Table *table, size_t grade)
     return table->counts == DESK_BY_SURVIVORS ? (uint64_t)row.count + row.defaults : row.count;
 }
 
+static uint32_t fault_of_row(const Table *table, size_t grade)
+{
+    const DeskRow row = table->rows[grade];
+    if (row.defaults > obligors_of(table, grade)) {
+        return 8;
+    }
+    if (row.announced > MILLION) {
+        return 10;
+    }
+    return grade > 0 && row.announced < table->rows[grade - 1].announced ? 34 : 0;
+}
+
 static uint32_t fault_of_rows(const Table *table)
 {
     uint64_t obligors = 0;
     for (size_t i = 0; i < table->grades; i++) {
-        const uint64_t n = obligors_of(table, i);
-        if (table->rows[i].defaults > n || table->rows[i].announced > MILLION) {
-            return table->rows[i].defaults > n ? 8 : 10;
+        const uint32_t number = fault_of_row(table, i);
+        if (number != 0) {
+            return number;
         }
-        obligors += n;
+        obligors += obligors_of(table, i);
     }
     return obligors == 0 ? 9 : obligors > MILLION ? 11 : 0;
 }
@@ -90,6 +103,15 @@ static bool has_empty_grade(const Table *table)
     bool found = false;
     for (size_t i = 0; i < table->grades; i++) {
         found = found || obligors_of(table, i) == 0;
+    }
+    return found;
+}
+
+static bool has_equal_rates(const Table *table)
+{
+    bool found = false;
+    for (size_t i = 1; i < table->grades; i++) {
+        found = found || table->rows[i].announced == table->rows[i - 1].announced;
     }
     return found;
 }
@@ -142,6 +164,7 @@ static uint32_t try_load_rows(const Desk *before, uint32_t place, const Table *t
     if (number == 0) {
         holds(holds_table(place == 1 ? &desk->first : &desk->second, table), "the place holds the table", place, table);
         with_empty_grades += has_empty_grade(table);
+        with_equal_rates += has_equal_rates(table);
     } else {
         holds(memcmp(desk, before, sizeof *before) == 0, "a refusal keeps the desk", place, table);
     }
@@ -264,8 +287,8 @@ static void faults_of_rows(void)
     expect(8, by_obligors, ROWS({0, UINT32_MAX, 0}));
     expect(9, by_obligors, ROWS({0, 0, 0}));
     expect(9, by_survivors, ROWS({0, 0, 0}));
-    expect(9, by_obligors, ROWS({0, 0, 0}, {0, 0, MILLION}, {0, 0, 5}));
-    expect(9, by_survivors, ROWS({0, 0, 0}, {0, 0, MILLION}, {0, 0, 5}));
+    expect(9, by_obligors, ROWS({0, 0, 0}, {0, 0, 5}, {0, 0, MILLION}));
+    expect(9, by_survivors, ROWS({0, 0, 0}, {0, 0, 5}, {0, 0, MILLION}));
     expect(0, by_obligors, ROWS({1, 0, MILLION}));
     expect(10, by_obligors, ROWS({1, 0, MILLION + 1}));
     expect(10, by_survivors, ROWS({1, 0, UINT32_MAX}));
@@ -294,6 +317,44 @@ static void empty_grades(void)
         expect(10, by_survivors, rows, DESK_GRADES);
         rows[grades - 1] = (DeskRow){0, 0, 0};
     }
+}
+
+/* Announced rates that fall in one row, the last or another, from the second on; or stay the same. Every third grade is empty. */
+static void falling_rates(DeskCounts counts)
+{
+    for (size_t row = 1; row < DESK_GRADES; row++) {
+        for (size_t empty = 0; empty < 3; empty++) {
+            DeskRow rows[DESK_GRADES];
+            for (size_t i = 0; i < DESK_GRADES; i++) {
+                rows[i] = (DeskRow){i % 3 != empty, 0, 100 + 2 * (uint32_t)i};
+            }
+            rows[row].announced = rows[row - 1].announced;
+            expect(0, counts, rows, row + 1);
+            expect(0, counts, rows, DESK_GRADES);
+            rows[row].announced--;
+            expect(34, counts, rows, row + 1);
+            expect(34, counts, rows, DESK_GRADES);
+        }
+    }
+    expect(34, counts, ROWS({1, 0, 1}, {1, 0, 0}));
+    expect(34, counts, ROWS({1, 0, MILLION}, {1, 0, MILLION - 1}));
+    expect(34, counts, ROWS({1, 0, 5}, {0, 0, 9}, {1, 0, 7})); /* above the rate of the next better occupied grade */
+    expect(34, counts, ROWS({0, 0, 9}, {1, 0, 7}));
+}
+
+/* A rate that falls and another fault: behind 8 and 10 of its row and of those before, and before whatever comes later. */
+static void falling_rates_in_order(DeskCounts counts)
+{
+    expect(counts == by_obligors ? 8 : 34, counts, ROWS({1, 0, 9}, {1, 2, 8}));
+    expect(counts == by_obligors ? 8 : 34, counts, ROWS({1, 2, 9}, {1, 0, 8}));
+    expect(10, counts, ROWS({1, 0, MILLION + 1}, {1, 0, MILLION}));
+    expect(10, counts, ROWS({1, 0, 9}, {1, 0, UINT32_MAX}, {1, 0, 8}));
+    expect(34, counts, ROWS({1, 0, 9}, {1, 0, 8}, {1, 2, 8}));
+    expect(34, counts, ROWS({1, 0, 9}, {1, 0, 8}, {1, 0, MILLION + 1}));
+    expect(34, counts, ROWS({0, 0, 9}, {0, 0, 8}));
+    expect(34, counts, ROWS({MILLION + 1, 0, 9}, {1, 0, 8}));
+    expect(34, counts, ROWS({UINT32_MAX, 0, 9}, {UINT32_MAX, 0, 8}));
+    expect(7, (DeskCounts)9, ROWS({1, 0, 9}, {1, 0, 8}));
 }
 
 static void sums(void)
@@ -337,8 +398,9 @@ static void orders(void)
 /* Places that are none, and loaded ones, come before any fault of the table. */
 static void places(void)
 {
-    DeskRow rows[] = {{5, 2, 400000}, {5, 6, 0}};
-    const Table tables[] = {{by_obligors, rows, 1}, {by_obligors, rows, 2}, {(DeskCounts)9, rows, 1}, {by_obligors, rows, 0}};
+    DeskRow rows[] = {{5, 2, 400000}, {5, 6, 400000}}, falls[] = {{5, 2, 400000}, {5, 2, 399999}};
+    const Table tables[] = {{by_obligors, rows, 1}, {by_obligors, rows, 2}, {(DeskCounts)9, rows, 1}, {by_obligors, rows, 0},
+                            {by_obligors, falls, 2}};
     const uint32_t none[] = {0, 3, 255, 257, 258, UINT32_MAX};
     for (unsigned with = 0; with < 4; with++) {
         const Desk desk = desk_with(with);
@@ -368,13 +430,29 @@ static uint64_t random_below(uint64_t bound)
 
 static bool one_in(uint64_t many) { return random_below(many) == 0; }
 
+static uint32_t random_rate(void)
+{
+    return one_in(4) ? MILLION * (uint32_t)random_below(2) : (uint32_t)random_below(MILLION + 1);
+}
+
+/* Puts the announced rates of rows in order. */
+static void sort_rates(DeskRow *rows, size_t grades)
+{
+    for (size_t i = 1; i < grades; i++) {
+        for (size_t j = i; j > 0 && rows[j].announced < rows[j - 1].announced; j--) {
+            const uint32_t rate = rows[j].announced;
+            rows[j].announced = rows[j - 1].announced;
+            rows[j - 1].announced = rate;
+        }
+    }
+}
+
 /* A row with at most this many obligors, 1 at least. */
 static DeskRow random_row(DeskCounts counts, uint64_t most)
 {
     const uint32_t n = one_in(4) ? (uint32_t)most : 1 + (uint32_t)random_below(most);
     const uint32_t d = one_in(4) ? n * (uint32_t)random_below(2) : (uint32_t)random_below((uint64_t)n + 1);
-    const uint32_t announced = one_in(4) ? MILLION * (uint32_t)random_below(2) : (uint32_t)random_below(MILLION + 1);
-    return (DeskRow){counts == DESK_BY_SURVIVORS ? n - d : n, d, announced};
+    return (DeskRow){counts == DESK_BY_SURVIVORS ? n - d : n, d, random_rate()};
 }
 
 /* Puts a number from beyond a limit, or from its edge, into one column of a row. */
@@ -401,6 +479,9 @@ static void random_case(void)
     for (size_t i = 0; i < table.grades; i++) {
         rows[i] = random_row(table.counts, most > 0 ? most : 1);
     }
+    if (!one_in(10)) {
+        sort_rates(rows, table.grades);
+    }
     for (uint64_t faults = one_in(2) ? random_below(4) : 0; faults > 0 && table.grades > 0; faults--) {
         spoil(&rows[random_below(table.grades)]);
     }
@@ -417,9 +498,9 @@ static void random_case(void)
 /* Of this many random tables each number must have met a fair share. */
 static void random_cases(unsigned long cases)
 {
-    const uint32_t numbers[] = {0, 1, 6, 7, 8, 9, 10, 11, 21};
+    const uint32_t numbers[] = {0, 1, 6, 7, 8, 9, 10, 11, 21, 34};
     memset(answered, 0, sizeof answered);
-    with_empty_grades = 0;
+    with_empty_grades = with_equal_rates = 0;
     for (unsigned long i = 0; i < cases && failures < 20; i++) {
         random_case();
     }
@@ -429,8 +510,9 @@ static void random_cases(unsigned long cases)
             failures++;
         }
     }
-    if (with_empty_grades < cases / 100) {
-        fprintf(stderr, "rows: %zu of %lu random tables are accepted with an empty grade\n", with_empty_grades, cases);
+    if (with_empty_grades < cases / 100 || with_equal_rates < cases / 100) {
+        fprintf(stderr, "rows: of %lu random tables %zu are accepted with an empty grade, %zu with equal rates\n", cases,
+                with_empty_grades, with_equal_rates);
         failures++;
     }
 }
@@ -441,6 +523,10 @@ int main(int count, char **words)
     kinds();
     faults_of_rows();
     empty_grades();
+    falling_rates(by_obligors);
+    falling_rates(by_survivors);
+    falling_rates_in_order(by_obligors);
+    falling_rates_in_order(by_survivors);
     sums();
     orders();
     places();

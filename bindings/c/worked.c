@@ -1,4 +1,5 @@
-/* The worked tables a to k of document 01, and those of of document 02, through the C interface. Prints each fact that does not hold. */
+/* The worked tables a to k of document 01, and those of R-1, R-4 and R-5 of document 02, through the C interface. Prints each fact that does not
+ * hold. */
 #include "desk.h"
 
 #include <stdbool.h>
@@ -181,7 +182,7 @@ static void r4_pooling(void)
 /* An empty grade adds nothing to any count, and cutoffs number it. */
 static void r4_counts_and_cutoffs(void)
 {
-    Desk desk = desk_of(TABLE({0, 0, 900000}, {10, 2, 100000}, {10, 1, 150000}, {0, 0, 0}, {20, 4, 200000}, {0, 0, 1}));
+    Desk desk = desk_of(TABLE({0, 0, 1}, {10, 2, 100000}, {10, 1, 150000}, {0, 0, 180000}, {20, 4, 200000}, {0, 0, 900000}));
     HOLDS(desk_load(&desk, 2, book_k, sizeof book_k, 1) == 0);
     DeskMeasures measures;
     HOLDS(desk_measures(&desk, 1, &measures) == 0 && is(measures.gini, 10, 231));
@@ -196,6 +197,44 @@ static void r4_counts_and_cutoffs(void)
     desk = desk_of(TABLE({0, 0, 0}, {5, 2, 0}, {0, 0, 0}, {1, 1, 0}, {0, 0, 0}, {0, 0, 0}));
     HOLDS(desk_cheapest(&desk, 1, 1, 3, &cheapest) == 0 && cheapest.cutoff == 3 && cheapest.cost == 2);
     HOLDS(desk_measures(&desk, 1, &measures) == 0 && is(measures.pietra, 3, 9) && measures.cutoff == 3);
+}
+
+/* Document 02, R-5: K's announced rates out of step, equal, and of an empty grade. Refused, the desk is as it was. */
+static void r5_falling_rates(void)
+{
+    Desk desk = desk_of(TABLE_E), before = desk;
+    DeskBook book, kept;
+    memset(&book, 0xA5, sizeof book);
+    memcpy(&kept, &book, sizeof book);
+    HOLDS(load(&desk, 2, TABLE({10, 2, 150000}, {10, 1, 100000}, {20, 4, 200000})) == DESK_REFUSED_FALLING_RATE);
+    HOLDS(load(&desk, 2, TABLE({10, 2, 100000}, {10, 1, 200000}, {20, 4, 150000})) == DESK_REFUSED_FALLING_RATE);
+    HOLDS(load(&desk, 2, TABLE({10, 2, 100000}, {0, 0, 99999}, {20, 4, 200000})) == DESK_REFUSED_FALLING_RATE);
+    HOLDS(load(&desk, 2, TABLE({10, 2, 100000}, {0, 0, 150000}, {20, 4, 149999})) == DESK_REFUSED_FALLING_RATE);
+    HOLDS(load(&desk, 2, TABLE({0, 0, 100000}, {0, 0, 99999})) == DESK_REFUSED_FALLING_RATE);
+    HOLDS(desk_book(&book, DESK_BY_SURVIVORS, TABLE({8, 2, 150000}, {9, 1, 100000})) == DESK_REFUSED_FALLING_RATE);
+    HOLDS(memcmp(&desk, &before, sizeof desk) == 0 && memcmp(&book, &kept, sizeof book) == 0);
+    HOLDS(load_alone(TABLE({10, 2, 100000}, {10, 1, 100000}, {0, 0, 200000}, {20, 4, 200000})) == 0);
+    HOLDS(strcmp(desk_meaning(34), "announced rate below that of the row before") == 0);
+}
+
+/* Only the rater that is loaded has its rates looked at: of K twice in one book, one or the other with its first two rates swapped. */
+static void r5_rates_of_another_rater(void)
+{
+    Desk desk = desk_of(TABLE({10, 2, 100000}, {10, 1, 150000}, {20, 4, 200000}));
+    uint8_t book[DESK_BOOK_BYTES];
+    size_t length = 0;
+    HOLDS(desk_load(&desk, 2, book_k, sizeof book_k, 1) == 0);
+    HOLDS(desk_write(&desk, book, sizeof book, &length) == 0 && length == 88);
+    for (uint32_t falls = 1; falls <= 2; falls++) {
+        uint8_t swapped[DESK_BOOK_BYTES];
+        const size_t rows = falls == 1 ? 12 : 52; /* where they start */
+        memcpy(swapped, book, length);
+        memcpy(swapped + rows + 8, book + rows + 20, 4);
+        memcpy(swapped + rows + 20, book + rows + 8, 4);
+        HOLDS(desk_empty(&desk) == 0);
+        HOLDS(desk_load(&desk, 1, swapped, length, falls) == DESK_REFUSED_FALLING_RATE && desk.first.loaded == 0);
+        HOLDS(desk_load(&desk, 1, swapped, length, 3 - falls) == 0 && desk.first.loaded == 1);
+    }
 }
 
 static void g_first_and_second(void)
@@ -279,6 +318,8 @@ int main(void)
     r1_smaller_cutoff();
     r4_pooling();
     r4_counts_and_cutoffs();
+    r5_falling_rates();
+    r5_rates_of_another_rater();
     g_first_and_second();
     h_crossing();
     i_equal();

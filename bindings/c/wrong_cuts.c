@@ -137,6 +137,9 @@ static const Case cases[] = {
     {4, 11, FIRST, 0, LENGTH, 31, {1, 4, FIRST, 11}},              /* and before them */
     {FIRST + 4, 0, FIRST + 16, 0, LENGTH, 0, {0, 0, 0, 0}},        /* all grades of the table empty: none, and before 9 */
     {FIRST + 4, 0, FIRST + 16, 0, LENGTH + 1, 33, {3, LENGTH, LENGTH, LENGTH + 1}},
+    {FIRST + 12, 2, FIRST + 24, 1, LENGTH, 0, {0, 0, 0, 0}},       /* announced rates that fall, 34: none, and before it */
+    {FIRST + 12, 2, FIRST + 24, 1, LENGTH + 1, 33, {3, LENGTH, LENGTH, LENGTH + 1}},
+    {FIRST + 12, 2, 8, 0, LENGTH, 31, {3, 8, LAST, 0}},
 };
 
 static void directed(void)
@@ -178,10 +181,26 @@ static void sweep(size_t step)
     }
 }
 
+/* Announced rates that fall are refused with 34, which is no cut. */
+static void falling_rates(void)
+{
+    uint8_t book[LENGTH + MORE];
+    Desk desk;
+    DeskWrongCut cut;
+    lay_out(book);
+    book[FIRST + 12] = 1;
+    desk_empty(&desk);
+    if (desk_load(&desk, 1, book, LENGTH, 1) != DESK_REFUSED_FALLING_RATE || desk_wrong_cut(book, LENGTH, &cut) != 0) {
+        failures++;
+        fprintf(stderr, "wrong_cuts: falling rates are not refused with 34, or are called a cut\n");
+    }
+}
+
 int main(int count, char **words)
 {
     const size_t step = count > 1 ? (size_t)strtoul(words[1], NULL, 10) : 1;
     directed();
+    falling_rates();
     sweep(step > 0 ? step : 1);
     for (size_t i = 0; i < COUNT(answered); i++) {
         if (answered[i] == 0) {

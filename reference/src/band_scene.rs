@@ -48,6 +48,14 @@ pub fn every_edge() -> Vec<Edge> {
     (0..LIMIT_COUNT).flat_map(at_limit).collect()
 }
 
+/// Those in turn that a table of one block has. Tables of several blocks leave out the sides that
+/// need all obligors: these have more turns.
+pub(crate) fn edges_in_turn() -> Vec<Edge> {
+    let mut rare = every_edge();
+    rare.retain(|edge| edge.needs_all_obligors());
+    [every_edge(), rare.clone(), rare].concat()
+}
+
 impl Edge {
     /// None if the rate is further from every limit. No rate is that near to two.
     pub fn of(rate: &Rate) -> Option<Edge> {

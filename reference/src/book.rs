@@ -12,7 +12,7 @@ pub const TABLE_HEAD_BYTES: usize = 4;
 pub const ROW_BYTES: usize = 12;
 
 /// Reads the table of one rater, or finds the refusal number of the first check that fails: the
-/// whole layout first (2 to 4, 6, 7, 31 to 33), then the rows of this rater only (8 to 11).
+/// whole layout first (2 to 4, 6, 7, 31 to 33), then the rows of this rater only (8 to 11, 34).
 pub fn read(book: &[u8], rater: u32) -> Result<Table, Refusal> {
     let raters = count_raters(book)?;
     if rater < 1 || rater as usize > raters {
@@ -72,15 +72,20 @@ fn check_table(book: &[u8], start: usize) -> Result<usize, Refusal> {
     Ok(end)
 }
 
-/// Refusals 8, 10 row by row, then 9, then 11: R-4 has moved 9 out of the rows, to where it is
+/// Refusals 8, 10, 34 row by row, then 9, then 11: R-4 has moved 9 out of the rows, to where it is
 /// known whether all grades are empty.
 fn read_table(book: &[u8], start: usize) -> Result<Table, Refusal> {
     let grade_count = book[start] as usize;
     let kind = book[start + 1];
-    let mut grades = Vec::new();
+    let mut grades: Vec<Grade> = Vec::new();
     for index in 0..grade_count {
         let row = start + TABLE_HEAD_BYTES + ROW_BYTES * index;
-        grades.push(read_row(book, row, kind)?);
+        let grade = read_row(book, row, kind)?;
+        // "A rate below that of the row before is 34." The first row has none before it.
+        if index > 0 && grade.announced < grades[index - 1].announced {
+            return Err(34);
+        }
+        grades.push(grade);
     }
     let table = Table { grades };
     if !table.grades.iter().any(Grade::is_occupied) {
@@ -92,6 +97,7 @@ fn read_table(book: &[u8], start: usize) -> Result<Table, Refusal> {
     Ok(table)
 }
 
+/// Refusals 8, 10.
 fn read_row(book: &[u8], row: usize, kind: u8) -> Result<Grade, Refusal> {
     let obligors = obligors_of_row(book, row, kind);
     let defaults = four_bytes(book, row + 4);
@@ -111,13 +117,26 @@ fn read_row(book: &[u8], row: usize, kind: u8) -> Result<Grade, Refusal> {
 
 /// Kind of first column and n of each grade, of a book whose layout is sound; its rows need not be.
 pub fn obligors(book: &[u8], rater: u32) -> (u8, Vec<u64>) {
-    let start = two_bytes(book, HEAD_BYTES + 2 * (rater as usize - 1));
+    let start = stated_start(book, rater);
     let kind = book[start + 1];
-    let of_grade = |index: usize| {
-        let row = start + TABLE_HEAD_BYTES + ROW_BYTES * index;
-        obligors_of_row(book, row, kind)
-    };
-    (kind, (0..book[start].into()).map(of_grade).collect())
+    let of_row = |row| obligors_of_row(book, row, kind);
+    (kind, row_starts(book, start).map(of_row).collect())
+}
+
+/// The announced rate of each grade, of a book whose layout is sound; its rows need not be.
+pub fn announced(book: &[u8], rater: u32) -> Vec<u64> {
+    let rows = row_starts(book, stated_start(book, rater));
+    rows.map(|row| four_bytes(book, row + 8)).collect()
+}
+
+fn stated_start(book: &[u8], rater: u32) -> usize {
+    two_bytes(book, HEAD_BYTES + 2 * (rater as usize - 1))
+}
+
+/// Where the rows of the table start that starts here.
+fn row_starts(book: &[u8], start: usize) -> impl Iterator<Item = usize> {
+    let grade_count = book[start] as usize;
+    (0..grade_count).map(move |index| start + TABLE_HEAD_BYTES + ROW_BYTES * index)
 }
 
 /// Kind 1 gives survivors in the first column. The sum is a true sum: u64 does not wrap here.

@@ -9,7 +9,7 @@ use crate::table::{Refusal, MAX_GRADES, MAX_OBLIGORS, MILLION};
 /// The refusal number that the damage alone leads to, and the damage.
 pub type Way = (Refusal, fn(&mut Random, &mut Draft));
 
-pub const WAYS: [Way; 26] = [
+pub const WAYS: [Way; 28] = [
     (2, shorten_below_head),
     (2, misstate_length),
     (2, cut_unstated),
@@ -32,6 +32,8 @@ pub const WAYS: [Way; 26] = [
     (8, defaults_above_obligors),
     (8, defaults_of_nobody),
     (10, announced_above),
+    (34, announced_below),
+    (34, announced_swapped),
     (9, all_grades_empty),
     (11, one_obligor_too_many),
     (11, wrapping_row),
@@ -39,7 +41,7 @@ pub const WAYS: [Way; 26] = [
 ];
 
 /// The numbers of `WAYS` in the order in which load comes to them first.
-pub const LOAD_ORDER: [Refusal; 12] = [2, 3, 4, 31, 32, 6, 7, 33, 8, 10, 9, 11];
+pub const LOAD_ORDER: [Refusal; 13] = [2, 3, 4, 31, 32, 6, 7, 33, 8, 10, 34, 9, 11];
 
 /// Grade counts outside 1 to 40.
 pub(crate) const COUNTS_OUTSIDE: [u8; 4] = [0, 41, 42, 255];
@@ -50,6 +52,11 @@ pub(crate) const ODD_ZERO_BYTES: [[u8; 2]; 4] = [[1, 0], [0, 1], [255, 255], [0,
 /// A way to damage, each refusal number as often as the others.
 pub fn any_way(random: &mut Random) -> Way {
     let number = random.pick(&LOAD_ORDER);
+    way_to(random, number)
+}
+
+/// A way to damage that leads to this number.
+pub(crate) fn way_to(random: &mut Random, number: Refusal) -> Way {
     let ways: Vec<Way> = WAYS.into_iter().filter(|way| way.0 == number).collect();
     random.pick(&ways)
 }
@@ -180,7 +187,7 @@ pub(crate) fn put_number(draft: &mut Draft, grade: usize, column: Column, number
     draft.put(at, &number.to_le_bytes());
 }
 
-fn get_number(draft: &Draft, grade: usize, column: Column) -> u32 {
+pub(crate) fn get_number(draft: &Draft, grade: usize, column: Column) -> u32 {
     draft.number(draft.column(draft.loaded(), grade, column))
 }
 
@@ -213,8 +220,54 @@ fn all_grades_empty(_: &mut Random, draft: &mut Draft) {
 
 fn announced_above(random: &mut Random, draft: &mut Draft) {
     let grade = any_row(random, draft);
+    put_rate_above(random, draft, grade);
+}
+
+pub(crate) fn put_rate_above(random: &mut Random, draft: &mut Draft, grade: usize) {
     let announced = random.pick(&[MILLION as u32 + 1, MILLION as u32 + 1, u32::MAX]);
     put_number(draft, grade, Column::Announced, announced);
+}
+
+/// A rate below that of the row before, in any row but the first.
+fn announced_below(random: &mut Random, draft: &mut Draft) {
+    have_second_row(draft);
+    let grade = 1 + random.index(draft.grade_count(draft.loaded()) - 1);
+    if get_number(draft, grade - 1, Column::Announced) == 0 {
+        let before = random.pick(&[1, 2, MILLION as u32]);
+        put_number(draft, grade - 1, Column::Announced, before);
+    }
+    // A row that was cut away has no rate.
+    let most = get_number(draft, grade - 1, Column::Announced).saturating_sub(1);
+    let any = random.between(0, most.into()) as u32;
+    let announced = random.pick(&[most, most, any, 0]);
+    put_number(draft, grade, Column::Announced, announced);
+}
+
+/// Two rates exchanged, of which the better grade had the lower one.
+fn announced_swapped(random: &mut Random, draft: &mut Draft) {
+    let count = draft.grade_count(draft.loaded());
+    let rate = |grade| get_number(draft, grade, Column::Announced);
+    let pairs: Vec<(usize, usize)> = (0..count)
+        .flat_map(|worse| (0..worse).map(move |better| (better, worse)))
+        .filter(|&(better, worse)| rate(better) < rate(worse))
+        .collect();
+    if pairs.is_empty() {
+        return announced_below(random, draft);
+    }
+    let (better, worse) = random.pick(&pairs);
+    let rates = (rate(better), rate(worse));
+    put_number(draft, better, Column::Announced, rates.1);
+    put_number(draft, worse, Column::Announced, rates.0);
+}
+
+/// A table of one grade gets another one, with nobody in it; the offsets tell it.
+fn have_second_row(draft: &mut Draft) {
+    let index = draft.loaded();
+    if draft.grade_count(index) == 1 {
+        draft.add_grade(index);
+        put_number(draft, 1, Column::First, 0);
+        draft.restate_offsets(index + 1);
+    }
 }
 
 /// N becomes 1,000,001, the smallest number above the limit.

@@ -7,8 +7,7 @@ use crate::desk::Desk;
 use crate::empty_scene::{empty_runs, Stand, STANDS};
 use crate::nearly_empty_scene::{every_rows, Rows};
 use crate::script::Call;
-use crate::table::Refusal;
-use crate::tally::answer_counts;
+use crate::tally::{comes_to_rows, loads_and_answers, Answers};
 use std::collections::BTreeMap;
 
 #[derive(Default)]
@@ -19,9 +18,6 @@ pub(crate) struct EmptyTally {
     /// Loads that come to the rows, by how many grades are empty and by the kind of first column.
     loads: BTreeMap<(&'static str, &'static str), Answers>,
 }
-
-/// How often each refusal number was the answer, or none.
-type Answers = BTreeMap<Option<Refusal>, usize>;
 
 /// What a row of the tally says of the length of a run.
 const LENGTHS: [(&str, usize, usize); 3] = [("1", 1, 1), ("2 to 5", 2, 5), ("6 and more", 6, 40)];
@@ -91,17 +87,6 @@ impl EmptyTally {
         }
         text
     }
-}
-
-fn loads_and_answers(answers: Option<&Answers>) -> (usize, String) {
-    answers.map_or((0, String::new()), |answers| {
-        (answers.values().sum(), answer_counts(answers))
-    })
-}
-
-/// Whether a load with this answer has found the layout sound.
-fn comes_to_rows(refusal: Option<Refusal>) -> bool {
-    refusal.is_none_or(|number| (8..=11).contains(&number))
 }
 
 /// How many grades are empty, and the kind of first column.

@@ -1,7 +1,8 @@
 //! The generator of scripts: scenes of a few calls each, one after the other on the same desk.
 //! The same seed and number of calls, the same script.
 
-use crate::band_scene::{every_edge, Edge};
+use crate::announced_scene::{rates_in_turn, Rates};
+use crate::band_scene::{edges_in_turn, Edge};
 use crate::cut_scene::{every_cut, Cut};
 use crate::desk::Desk;
 use crate::draft::Draft;
@@ -29,6 +30,7 @@ pub(crate) struct Marks {
     pub cuts: BTreeMap<usize, Cut>,
     pub pairs: BTreeMap<usize, FaultPair>,
     pub rows: BTreeMap<usize, Rows>,
+    pub rates: BTreeMap<usize, Rates>,
 }
 
 impl Script {
@@ -87,6 +89,7 @@ pub struct Generator {
     edges_to_come: Vec<Edge>,
     patterns_to_come: Vec<Pattern>,
     rows_to_come: Vec<Rows>,
+    rates_to_come: Vec<Rates>,
     name: &'static str,
 }
 
@@ -103,6 +106,7 @@ impl Generator {
             edges_to_come: vec![],
             patterns_to_come: vec![],
             rows_to_come: vec![],
+            rates_to_come: vec![],
             name: "",
         }
     }
@@ -140,7 +144,7 @@ impl Generator {
     }
 
     pub(crate) fn next_edge(&mut self) -> Edge {
-        self.random.deal(&mut self.edges_to_come, every_edge)
+        self.random.deal(&mut self.edges_to_come, edges_in_turn)
     }
 
     pub(crate) fn next_pattern(&mut self) -> Pattern {
@@ -149,6 +153,10 @@ impl Generator {
 
     pub(crate) fn next_rows(&mut self) -> Rows {
         self.random.deal(&mut self.rows_to_come, every_rows)
+    }
+
+    pub(crate) fn next_rates(&mut self) -> Rates {
+        self.random.deal(&mut self.rates_to_come, rates_in_turn)
     }
 
     /// A load of a book that is cut wrong in this manner.
@@ -166,6 +174,12 @@ impl Generator {
     /// A load of such a table of empty grades.
     pub(crate) fn load_rows(&mut self, place: u32, draft: Draft, rows: Rows) {
         self.marks.rows.insert(self.calls.len(), rows);
+        self.load(place, draft);
+    }
+
+    /// A load of a table with such announced rates.
+    pub(crate) fn load_rates(&mut self, place: u32, draft: Draft, rates: Rates) {
+        self.marks.rates.insert(self.calls.len(), rates);
         self.load(place, draft);
     }
 

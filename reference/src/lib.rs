@@ -1,16 +1,19 @@
-//! The rating scale desk in plain Rust, written from document 01, requests of document
+//! The rating scale desk in plain Rust, written from document 01, requests of document
 //! 02 and REPLAY.md alone: a second opinion on the proved library. Everything is done by
 //! definition, not cleverly, so that it can be read next to the documents.
 //!
 //! * the library: `table`, `book`, `pooling`, `cutoff`, `measures`, `spread`, `desk`, `print`;
 //! * the scripts of REPLAY.md: `script` (calls), `answer` (lines);
-//! * the generator: `random`, `population` (tables), `partners` (pairs of tables), `diagonal`
-//!   (tables for Pietra), `draft` (books), `damage` and `cuts` (of books), `operands`, `scenes`,
-//!   `cut_scene`, `pair_scene`, `band_scene`, `empty_scene`, `nearly_empty_scene`, `tail`,
-//!   `generate`;
-//! * the comparison: `compare`, `tally`, `empty_tally`;
+//! * the generator: `random`, `announced` (rates), `population` (tables), `partners` (pairs of
+//!   tables), `diagonal` (tables for Pietra), `draft` (books), `damage` and `cuts` (of books),
+//!   `operands`, `scenes`, `cut_scene`, `pair_scene`, `band_scene`, `empty_scene`,
+//!   `nearly_empty_scene`, `announced_scene`, `tail`, `generate`;
+//! * the comparison: `compare`, `tally`, `empty_tally`, `announced_tally`;
 //! * `natural`: whole numbers of any size, for the bound on the residual.
 
+pub mod announced;
+pub mod announced_scene;
+pub(crate) mod announced_tally;
 pub mod answer;
 pub mod band_scene;
 pub mod book;

@@ -1,13 +1,13 @@
 //! The scene "all grades empty, or nearly", for request R-4 of document 02: tables that load has to
 //! tell from one whose grades are all empty, and that one itself.
 
-use crate::damage::{put_number, set_kind};
+use crate::damage::{put_number, put_rate_above, set_kind};
 use crate::draft::{Column, Draft};
 use crate::generate::Generator;
 use crate::population::{announce, any_grade_count};
 use crate::random::Random;
 use crate::script::Call;
-use crate::table::{Table, MAX_GRADES, MAX_OBLIGORS, MILLION};
+use crate::table::{Table, MAX_GRADES, MAX_OBLIGORS};
 use std::fmt;
 
 /// Tables whose grades are all empty, save for what the name says. A default without an obligor
@@ -101,14 +101,14 @@ impl Rows {
         match self {
             Rows::Nothing => (),
             Rows::Default => put_default(random, draft, row),
-            Rows::Rate => put_rate(random, draft, row),
+            Rows::Rate => put_rate_above(random, draft, row),
             Rows::DefaultThenRate => {
                 put_default(random, draft, earlier);
                 let later = random.pick(&[earlier, last]);
-                put_rate(random, draft, later);
+                put_rate_above(random, draft, later);
             }
             Rows::RateThenDefault => {
-                put_rate(random, draft, earlier);
+                put_rate_above(random, draft, earlier);
                 put_default(random, draft, last);
             }
             Rows::Obligors => put_obligors(random, draft, row),
@@ -123,7 +123,7 @@ impl Rows {
                 let other = random.pick(&[row, earlier]);
                 put_obligors(random, draft, other);
                 let wrong = random.pick(&[earlier, last]);
-                put_rate(random, draft, wrong);
+                put_rate_above(random, draft, wrong);
             }
             Rows::AllDefaulted => {
                 set_kind(draft, 1);
@@ -142,11 +142,6 @@ fn put_default(random: &mut Random, draft: &mut Draft, row: usize) {
     set_kind(draft, 0);
     let defaults = random.pick(&[1, 1, 5, u32::MAX]);
     put_number(draft, row, Column::Defaults, defaults);
-}
-
-fn put_rate(random: &mut Random, draft: &mut Draft, row: usize) {
-    let rate = random.pick(&[MILLION as u32 + 1, MILLION as u32 + 1, u32::MAX]);
-    put_number(draft, row, Column::Announced, rate);
 }
 
 fn put_obligors(random: &mut Random, draft: &mut Draft, row: usize) {

@@ -1,8 +1,9 @@
 //! Random tables of every size and kind.
 
+use crate::announced::in_step;
 use crate::pooling::Rate;
 use crate::random::Random;
-use crate::table::{Grade, Table, MAX_OBLIGORS, MILLION};
+use crate::table::{Grade, Table, MAX_OBLIGORS};
 
 /// A valid table of any size and kind.
 pub fn any_table(random: &mut Random) -> Table {
@@ -158,20 +159,10 @@ fn any_defaults(random: &mut Random, sizes: &[u64]) -> Vec<u64> {
     sizes.iter().zip(millis).map(share).collect()
 }
 
-/// Fills in announced rates; mostly rising, as document 01 expects, but nothing depends on it.
+/// Fills in announced rates that never fall: R-5 has load test it.
 pub fn announce(random: &mut Random, table: &mut Table) {
-    let most = random.pick(&[0, 1, 1_000, MILLION, MILLION]);
-    let count = table.grades.len();
-    let mut rates: Vec<u64> = (0..count).map(|_| random.between(0, most)).collect();
-    if random.chance(10) {
-        rates.fill(most);
-    }
-    if random.chance(70) {
-        rates.sort_unstable();
-    }
-    for (grade, rate) in table.grades.iter_mut().zip(rates) {
-        grade.announced = rate;
-    }
+    let rates = in_step(random, table.grades.len());
+    table.announce(&rates);
 }
 
 fn by_rate(one: &Grade, other: &Grade) -> std::cmp::Ordering {
@@ -183,13 +174,13 @@ fn by_rate(one: &Grade, other: &Grade) -> std::cmp::Ordering {
 }
 
 /// Puts the occupied grades into the order of their default rates. Empty ones have no rate: they
-/// stay where they are.
+/// stay where they are, and so do the announced rates, which are in step.
 pub fn sort_by_rate(table: &mut Table) {
     let mut sorted = table.grades.clone();
     sorted.retain(Grade::is_occupied);
     sorted.sort_by(by_rate);
     let places = table.grades.iter_mut().filter(|grade| grade.is_occupied());
     for (place, grade) in places.zip(sorted) {
-        *place = grade;
+        (place.obligors, place.defaults) = (grade.obligors, grade.defaults);
     }
 }

@@ -1,7 +1,7 @@
 //! The scenes of generated scripts: a few calls each that belong together.
 
 use crate::book;
-use crate::damage::{any_way, ways_from, WAYS};
+use crate::damage::{any_way, ways_from};
 use crate::diagonal::table_for_pietra;
 use crate::draft::Draft;
 use crate::generate::Generator;
@@ -14,21 +14,22 @@ use crate::table::{Table, MAX_GRADES, MAX_OBLIGORS};
 pub type Scene = (&'static str, fn(&mut Generator));
 
 /// How often each scene is taken, in proportion.
-pub const SCENES: [(u64, Scene); 15] = [
+pub const SCENES: [(u64, Scene); 16] = [
     (40, ("two raters, same obligors", Generator::same_obligors)),
     (8, ("two raters, other obligors", Generator::other_obligors)),
     (14, ("one table, all questions", Generator::one_table)),
     (34, ("far from the diagonal", Generator::far_from_diagonal)),
-    (30, ("damaged book", Generator::damaged_book)),
+    (34, ("damaged book", Generator::damaged_book)),
     (22, ("several faults at once", Generator::several_faults)),
     (22, ("book cut wrong", Generator::book_cut_wrong)),
     (18, ("two faults of a table", Generator::two_faults)),
     (2, ("junk for a book", Generator::junk_book)),
     (4, ("wandering calls", Generator::wandering)),
     (5, ("at the limits", Generator::limits)),
-    (34, ("at a band's limit", Generator::at_band_limit)),
-    (12, ("some grades empty", Generator::some_empty)),
+    (38, ("at a band's limit", Generator::at_band_limit)),
+    (14, ("some grades empty", Generator::some_empty)),
     (12, ("all grades empty, or nearly", Generator::nearly_empty)),
+    (11, ("announced rates out of step", Generator::out_of_step)),
     (5, ("write and load back", Generator::write_and_load)),
 ];
 
@@ -82,9 +83,7 @@ impl Generator {
         if self.random.chance(30) && draft.raters() > 1 {
             let right = draft.rater;
             draft.rater = 1 + right % draft.raters() as u32;
-            let row_ways = WAYS.iter().filter(|way| (8..=11).contains(&way.0));
-            let damages: Vec<_> = row_ways.map(|way| way.1).collect();
-            let damage = self.random.pick(&damages);
+            let (_, damage) = self.random.pick(&ways_from(8));
             damage(&mut self.random, &mut draft);
             draft.rater = right;
         }

@@ -53,6 +53,13 @@ impl Table {
         }
     }
 
+    /// Puts these announced rates in, the best grade's first.
+    pub fn announce(&mut self, rates: &[u64]) {
+        for (grade, &rate) in self.grades.iter_mut().zip(rates) {
+            grade.announced = rate;
+        }
+    }
+
     /// How many grades have somebody in them.
     pub fn occupied(&self) -> usize {
         let grades = self.grades.iter();

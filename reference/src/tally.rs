@@ -1,6 +1,8 @@
 //! How often one run exercises which operations, verdicts, kinds of Pietra, rates at the limits of
-//! bands, empty grades, refusal numbers, books cut wrong, pairs of faults, buffers and scenes.
+//! bands, empty grades, announced rates, refusal numbers, books cut wrong, pairs of faults, buffers
+//! and scenes.
 
+use crate::announced_tally::AnnouncedTally;
 use crate::answer::{verdict_name, Answer};
 use crate::band_scene::{every_edge, Edge, SIDES};
 use crate::compare::plan;
@@ -30,6 +32,7 @@ pub struct Tally {
     /// The other blocks of accepted pools.
     far_rates: BTreeMap<&'static str, usize>,
     empty: EmptyTally,
+    announced: AnnouncedTally,
     /// For each refusal number, the calls of each operation.
     refusals: BTreeMap<Refusal, BTreeMap<&'static str, usize>>,
     cuts: BTreeMap<Cut, CutLoads>,
@@ -44,8 +47,11 @@ pub struct Tally {
 struct CutLoads {
     /// Of the first rater, of one between, of the last.
     by_rater: [usize; 3],
-    answers: BTreeMap<Option<Refusal>, usize>,
+    answers: Answers,
 }
+
+/// How often each refusal number was the answer, or none.
+pub(crate) type Answers = BTreeMap<Option<Refusal>, usize>;
 
 impl Tally {
     /// The tally of all scripts of one run.
@@ -71,6 +77,8 @@ impl Tally {
             self.add_blocks(&desk, call, &answer);
             let rows = marks.rows.get(&index).copied();
             self.empty.add(&desk, call, &answer, rows);
+            let rates = marks.rates.get(&index).copied();
+            self.announced.add(call, &answer, rates);
             if let Some(&cut) = marks.cuts.get(&index) {
                 self.add_cut(cut, call, &answer);
             }
@@ -167,6 +175,12 @@ impl Tally {
             self.empty.run_table(),
             self.empty.row_table(),
             self.empty.load_table(),
+            self.announced.case_table(),
+            self.announced.fall_table(),
+            two_columns(
+                "| announced rates of loaded tables | times |",
+                &self.announced.loaded,
+            ),
             self.refusal_table(),
             self.cut_table(),
             self.pair_table(),
@@ -277,8 +291,19 @@ fn two_columns(head: &str, times: &BTreeMap<&'static str, usize>) -> String {
     text
 }
 
+/// Whether a load with this answer has found the layout sound.
+pub(crate) fn comes_to_rows(refusal: Option<Refusal>) -> bool {
+    refusal.is_none_or(|number| (8..=11).contains(&number) || number == 34)
+}
+
+pub(crate) fn loads_and_answers(answers: Option<&Answers>) -> (usize, String) {
+    answers.map_or((0, String::new()), |answers| {
+        (answers.values().sum(), answer_counts(answers))
+    })
+}
+
 /// How often each refusal number was the answer, or none.
-pub(crate) fn answer_counts(answers: &BTreeMap<Option<Refusal>, usize>) -> String {
+fn answer_counts(answers: &Answers) -> String {
     let counts: Vec<String> = answers
         .iter()
         .map(|(answer, times)| match answer {

@@ -261,11 +261,13 @@ fn bytes_behind_a_table_past_the_end() {
     }
     refused(31, &[count(1, 6), Append(4, 1)]);
     refused(31, &[count(2, 5), Append(8, 1)]);
-    // The third table has a further row: a default of nobody is 8 for its own rater alone, and
-    // a grade with nobody in it is none by R-4.
+    // The third table has a further row: a default of nobody is 8 for its own rater alone, a rate
+    // of 0 behind one of 50 is 34 by R-5, and a grade with nobody in it is no fault by R-4.
     let book = changed(&BOOK, &[count(3, 3), Append(12, 0), Put(86, vec![1])]);
     assert_eq!([1, 2, 3].map(|rater| load(&book, rater)), [0, 0, 8]);
-    refused(0, &[count(3, 3), Append(12, 0)]);
+    let book = changed(&BOOK, &[count(3, 3), Append(12, 0)]);
+    assert_eq!([1, 2, 3].map(|rater| load(&book, rater)), [0, 0, 34]);
+    refused(0, &[count(3, 3), Append(12, 0), Put(90, vec![50])]);
     // The last row is cut away and other bytes follow.
     refused(32, &[Cut(70), Append(11, 0)]);
     refused(33, &[Cut(70), Append(13, 0)]);
@@ -365,7 +367,9 @@ fn rows_come_after_the_whole_layout() {
             (10, vec![Put(announced, vec![0x41, 0x42, 0x0f])]),
             (11, vec![Put(first, vec![0x41, 0x42, 0x0f])]),
         ];
-        for (number, fault) in faults {
+        // Behind a rate of 51 that of the second row is a fall.
+        let fall = (grades == 2).then(|| (34, vec![Put(announced, vec![51])]));
+        for (number, fault) in faults.into_iter().chain(fall) {
             let book = changed(&BOOK, &fault);
             let mut expected = [0; 3];
             expected[table - 1] = number;
@@ -402,7 +406,8 @@ fn a_book_of_one_rater() {
     }
     refused(33, &[Append(1, 0)]);
     refused(32, &[Put(6, vec![2]), Append(11, 0)]);
-    refused(0, &[Put(6, vec![2]), Append(12, 0)]);
+    refused(34, &[Put(6, vec![2]), Append(12, 0)]);
+    refused(0, &[Put(6, vec![2]), Append(12, 0), Put(30, vec![10])]);
     refused(9, &[Put(6, vec![2]), Put(10, vec![0; 12]), Append(12, 0)]);
     refused(33, &[Put(6, vec![2]), Append(13, 0)]);
 }

@@ -100,7 +100,7 @@ fn rows_have_8_before_10_and_come_before_9() {
     ] {
         assert_eq!(load(&book_of(0, &grades)), number, "{grades:?}");
         // Whatever stands behind the first fault, and whoever stands before it.
-        let with_others = [vec![EMPTY, [5, 2, 7], EMPTY], grades, vec![[1, 2, ABOVE]]].concat();
+        let with_others = [vec![EMPTY, [5, 2, 0], EMPTY], grades, vec![[1, 2, ABOVE]]].concat();
         let number = if number == 9 { 8 } else { number };
         assert_eq!(load(&book_of(0, &with_others)), number, "{with_others:?}");
     }
@@ -271,17 +271,21 @@ fn pietra_numbers_all_grades_and_nothing_else_changes() {
 
 #[test]
 fn an_announced_rate_of_nobody_adds_nothing_to_brier() {
-    for index in 0..=3 {
-        for announced in [0, 1, 150_000, 1_000_000] {
+    // From the rate of the grade before to that of the grade behind.
+    let in_step = [
+        [0, 1, 50_000, 100_000],
+        [100_000, 100_001, 149_999, 150_000],
+        [150_000, 150_001, 180_000, 200_000],
+        [200_000, 200_001, 999_999, 1_000_000],
+    ];
+    for (index, rates_of_nobody) in in_step.into_iter().enumerate() {
+        for announced in rates_of_nobody {
+            let mut rates = vec![100_000, 150_000, 200_000];
+            rates.insert(index, announced);
             let mut table = k_with_empty(index);
-            let rates = [100_000, 150_000, 200_000];
-            let occupied = table.grades.iter_mut().filter(|grade| grade.obligors > 0);
-            for (grade, rate) in occupied.zip(rates) {
-                grade.announced = rate;
-            }
-            table.grades[index].announced = announced;
+            table.announce(&rates);
             let expected = (5_825_000_000_000, 40_000_000_000_000);
-            assert_eq!(brier(&table), expected, "{index}, {announced}");
+            assert_eq!(desk_with(&table).brier(1), Ok(expected), "{rates:?}");
         }
     }
 }

@@ -263,12 +263,12 @@ fn a_run_loads_every_table_of_empty_grades() {
 
 #[test]
 fn a_run_comes_to_the_rows_of_full_and_empty_tables_of_both_kinds() {
-    let occupied = ["ok", "8", "10", "11"];
+    let occupied = ["ok", "8", "10", "11", "34"];
     let classes = [
         ("none empty", &occupied[..]),
         ("some empty, several occupied", &occupied),
         ("all but one empty", &occupied),
-        ("all empty", &["8", "9", "10"]),
+        ("all empty", &["8", "9", "10", "34"]),
     ];
     let tally = Tally::of_run(1, 15_000).markdown();
     for (class, answers) in classes {

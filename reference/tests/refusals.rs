@@ -68,7 +68,7 @@ fn damages_can_meet_in_one_book() {
 
 #[test]
 fn every_number_of_a_book_has_its_ways() {
-    let documents = [2, 3, 4, 6, 7, 8, 9, 10, 11, 31, 32, 33];
+    let documents = [2, 3, 4, 6, 7, 8, 9, 10, 11, 31, 32, 33, 34];
     let mut numbers = LOAD_ORDER;
     numbers.sort_unstable();
     assert_eq!(numbers, documents);
@@ -87,9 +87,10 @@ fn ways_are_taken_from_a_point_of_the_load_order_on() {
         numbers
     };
     assert_eq!(ways_from(2).len(), WAYS.len());
-    assert_eq!(numbers(3), [3, 4, 6, 7, 8, 9, 10, 11, 31, 32, 33]);
-    assert_eq!(numbers(31), [6, 7, 8, 9, 10, 11, 31, 32, 33]);
-    assert_eq!(numbers(8), [8, 9, 10, 11]);
+    assert_eq!(numbers(3), [3, 4, 6, 7, 8, 9, 10, 11, 31, 32, 33, 34]);
+    assert_eq!(numbers(31), [6, 7, 8, 9, 10, 11, 31, 32, 33, 34]);
+    assert_eq!(numbers(8), [8, 9, 10, 11, 34]);
+    assert_eq!(numbers(34), [9, 11, 34]);
 }
 
 #[test]
@@ -133,6 +134,10 @@ fn layout_is_tried_table_by_table() {
     assert_eq!(read(&[(12, 1), (49, 2)]), Err(7));
     assert_eq!(read(&[(12, 1)]), Err(8));
     assert_eq!(read(&[(52, 1)]), Ok(mixed()));
+    // The rates of the first rows stand at 20 and 60.
+    assert_eq!(read(&[(20, 1), (49, 2)]), Err(7));
+    assert_eq!(read(&[(20, 1)]), Err(34));
+    assert_eq!(read(&[(60, 1)]), Ok(mixed()));
 }
 
 #[test]

@@ -1,8 +1,9 @@
-"""What the tests of the module and the command share: where they stand, copies of the repository, desks with tables."""
+"""What the tests of the module and the command share: where they stand, copies of the repository, desks with tables, rates in order."""
 from __future__ import annotations
 
-from typing import List, Tuple
+from typing import List, Sequence, Tuple
 import os
+import random
 import shutil
 import subprocess
 import sys
@@ -12,6 +13,7 @@ sys.path[:0] = [os.path.join(TOP, 'bindings', 'python'), os.path.join(TOP, 'test
 from desk import Desk, Table  # noqa: E402
 
 Scale = List[Tuple[int, int]]  # n and d of each grade, best first
+Row = Tuple[int, int, int]  # first column, defaults, announced rate
 
 
 def read(*names: str) -> bytes:
@@ -29,6 +31,19 @@ def copy_repository(to: str, *built: str) -> None:
     for part in built:
         if os.path.isdir(os.path.join(TOP, 'target', part)):
             shutil.copytree(os.path.join(TOP, 'target', part), os.path.join(to, 'target', part), symlinks=True)
+
+
+def in_order(rows: Sequence[Row]) -> list[Row]:
+    """The rows with their announced rates put in order, so that none falls."""
+    rates = sorted(announced for _, _, announced in rows)
+    return [(first, defaults, rate) for (first, defaults, _), rate in zip(rows, rates)]
+
+
+def exchanged(source: random.Random, rows: Sequence[Row]) -> list[Row]:
+    """The rows with the announced rates of two of them exchanged; these may be equal, or those of one row."""
+    rates, one, other = [announced for _, _, announced in rows], source.randrange(len(rows)), source.randrange(len(rows))
+    rates[one], rates[other] = rates[other], rates[one]
+    return [(first, defaults, rate) for (first, defaults, _), rate in zip(rows, rates)]
 
 
 def table_of(scale: Scale) -> Table:

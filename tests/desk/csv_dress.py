@@ -1,4 +1,5 @@
 """Random CSV files for the tests of their reader: tables in a lawful dress, with the sheets that they are, and damage to them."""
+from common import in_order
 from desk.command.csv_file import Sheet
 
 SEPARATORS = ',;\t'
@@ -39,6 +40,7 @@ class Dress:
         if name:
             self.write_line([self.cased(self.source.choice(('name', 'rater'))), name], self.source.randint(0, 2))
         rows = [self.row() for _ in range(self.source.choice((1, 2, 3) if self.small else (0, 1, 2, 5, 40)))]
+        rows = in_order(rows) if self.source.random() < 0.7 else rows
         counts = self.source.choice(('obligors', 'survivors'))
         labels = self.source.sample(LABEL_NAMES, self.source.choice((0, 0, 1, 2, 4)))
         order = self.source.sample([counts, 'defaults', 'announced', *labels], 3 + len(labels))

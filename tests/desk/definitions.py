@@ -1,4 +1,4 @@
-"""Document 01's definitions, computed plainly for the tests that hold answers to them; of document 02, R-1 and R-4.
+"""Document 01's definitions, computed plainly for the tests that hold answers to them; of document 02, R-1, R-4 and R-5.
 
 A grade is its obligors, its defaults and its announced rate in ppm. Everything is exact: whole numbers and fractions.
 """
@@ -21,6 +21,22 @@ def totals(grades: Grades) -> tuple[int, int, int]:
     """N, D and S."""
     obligors, defaults = sum(n for n, _, _ in grades), sum(d for _, d, _ in grades)
     return obligors, defaults, obligors - defaults
+
+
+# What load refuses
+
+def row_faults(counts: str, rows: Grades) -> list[tuple[int, int | None]]:
+    """Each number that load has for these rows in its order, with the row, counted from 0: row by row 8, 10, then by R-5 "A rate below that of
+    the row before is 34, tested in each row after 10"; then 9 and 11, which have no row. Behind a rate that is 10 itself no fall is told."""
+    found: list[tuple[int, int | None]] = []
+    for row, (first, defaults, announced) in enumerate(rows):
+        before = rows[row - 1][2] if row else 0
+        found += [(8, row)] * (counts == 'obligors' and defaults > first)
+        found += [(10, row)] * (announced > PPM)
+        found += [(34, row)] * (announced < before <= PPM)
+    obligors = totals(grades_of(counts, rows))[0]
+    empty = all(row[:2] == (0, 0) for row in rows)
+    return found + [(9, None)] * empty + [(11, None)] * (obligors > 1_000_000)
 
 
 # Cutoffs and prices

@@ -14,7 +14,7 @@ import sys
 import unittest
 
 sys.dont_write_bytecode = True
-from common import TOP, read  # noqa: E402
+from common import TOP, exchanged, in_order, read  # noqa: E402
 import books  # noqa: E402
 from desk import Desk, Refused, Table, read_book, write_book  # noqa: E402
 from desk.book import load_refusals  # noqa: E402
@@ -25,8 +25,8 @@ Tables = List[Tuple[int, Rows]]  # kind and rows of each rater
 LIMITS = (0, 1, 2, 999_999, 1_000_000, 1_000_001, 2 ** 31, 2 ** 32 - 1)
 NO_RATERS = (17, 2 ** 32 - 1, 2 ** 32 + 1, -1)
 BYTES = (0, 1, 2, 3, 16, 17, 40, 41, 128, 255)
-SMALL: Tables = [(0, [(5, 1, 7)]), (1, [(0, 0, 7), (0, 1, 1_000_000)])]  # an empty grade, and one with a single obligor
-IN_A_BOOK = {2, 3, 4, 6, 7, 8, 9, 10, 11, 31, 32, 33}
+SMALL: Tables = [(0, [(5, 1, 7)]), (1, [(0, 0, 7), (0, 1, 7), (0, 0, 1_000_000)])]  # empty grades, and one with a single obligor
+IN_A_BOOK = {2, 3, 4, 6, 7, 8, 9, 10, 11, 31, 32, 33, 34}
 
 
 def sound_rows(source: random.Random, kind: int) -> Rows:
@@ -38,13 +38,14 @@ def sound_rows(source: random.Random, kind: int) -> Rows:
         obligors = source.choice((share, source.randint(1, share), 0 if grade != occupied else share))
         defaults = source.choice((0, obligors, source.randint(0, obligors)))
         rows.append((obligors - defaults if kind else obligors, defaults, source.choice((0, 1_000_000, source.randint(0, 1_000_000)))))
-    return rows
+    return in_order(rows)
 
 
 def rows_at_limits(source: random.Random, kind: int) -> Rows:
-    """Sound rows of which some numbers are at a limit or beyond."""
-    rows = [list(row) for row in sound_rows(source, kind)]
-    for _ in range(source.randint(1, 3)):
+    """Sound rows of which some numbers are at a limit or beyond, or two announced rates exchanged."""
+    rows = sound_rows(source, kind)
+    rows = [list(row) for row in (exchanged(source, rows) if source.random() < 0.2 else rows)]
+    for _ in range(source.randint(0, 3)):
         source.choice(rows)[source.randrange(3)] = source.choice(LIMITS)
     if source.random() < 0.2:
         for row in rows if source.random() < 0.7 else source.sample(rows, 1):
@@ -149,7 +150,7 @@ class SameNumbers(unittest.TestCase):
                 changed = bytearray(with_true_length((book + bytes(2))[:length]))
                 changed[one] = source.choice(BYTES)
                 self.see(bytes(changed), source.choice((0, 1, 2, 3)))
-        self.assertLessEqual(IN_A_BOOK - {8, 9, 10, 11}, self.seen.keys())
+        self.assertLessEqual(IN_A_BOOK - {8, 9, 10, 11, 34}, self.seen.keys())
 
     def test_random_books(self) -> None:
         source = random.Random(2)
@@ -180,7 +181,7 @@ class SameNumbers(unittest.TestCase):
             self.see(books.encoded([(kind, rows)]), 1)
             seen[number] += 1
         self.assertEqual(seen, self.seen)
-        self.assertTrue(all(seen[number] >= 50 for number in (0, 8, 9, 10, 11)), seen)
+        self.assertTrue(all(seen[number] >= 50 for number in (0, 8, 9, 10, 11, 34)), seen)
 
 
 class WhereItStands(unittest.TestCase):

@@ -14,6 +14,7 @@ import unittest
 sys.dont_write_bytecode = True
 sys.path.insert(0, os.path.dirname(os.path.abspath(__file__)))
 from running import EXAMPLES, Case, book_of, content_of, csv_text, example, run  # noqa: E402
+from common import in_order  # noqa: E402
 from books import described  # noqa: E402
 from definitions import totals  # noqa: E402
 from expected import about_measures, compare_data  # noqa: E402
@@ -122,7 +123,7 @@ class Refused(Case):
                 self.assertIn(f'rater {rater} has {defaults} defaults and {survivors} survivors', line)
 
     def test_a_table_that_load_refuses(self) -> None:
-        for number, refusal in ((5, 9), (6, 8), (7, 10), (8, 11)):
+        for number, refusal in ((5, 9), (6, 8), (7, 10), (8, 11), (9, 34)):
             self.refused(refusal, 'compare', self.BOOK, '1', str(number))
             self.refused(refusal, 'compare', self.BOOK, str(number), '1')
         self.assertEqual(len(self.refused(9, 'compare', self.BOOK, '5', '6')), 2)
@@ -235,7 +236,7 @@ class WhichRaters(Case):
 class AtRandom(Comparing):
     def scale(self, source: random.Random, scale: list, number: int) -> Scale:
         counts = source.choice(('obligors', 'survivors'))
-        rows = by(counts, [(n, d, source.randint(0, 1_000_000)) for n, d in scale])
+        rows = by(counts, in_order([(n, d, source.randint(0, 1_000_000)) for n, d in scale]))
         return Scale(f'rater {number}', self.path('two.book'), number, counts, rows)
 
     def test_two_hundred_pairs(self) -> None:

@@ -12,6 +12,7 @@ import unittest
 sys.dont_write_bytecode = True
 sys.path.insert(0, os.path.dirname(os.path.abspath(__file__)))
 from running import book_of, content_of, csv_text, example, examples  # noqa: E402
+from common import in_order  # noqa: E402
 from converting import BOOK_K, OBLIGORS, Converting  # noqa: E402
 from expected import rater_data  # noqa: E402
 from scales import AGENCY, FITCH_CCC, INHOUSE, Scale, rater_of  # noqa: E402
@@ -27,7 +28,7 @@ def with_bytes(content: bytes, **changes: int) -> bytes:
 
 
 class Examples(Converting):
-    NAMED = ('agency.csv', 'fitch_ccc.csv', 'inhouse.csv')  # with names, which no book holds
+    NAMED = ('agency.csv', 'fitch_ccc.csv', 'inhouse.csv', 'swapped.csv')  # with names, which no book holds
     FAULTY = ('refusals.book',)  # with tables that load refuses
 
     def test_every_book_whose_raters_all_load_has_its_csv(self) -> None:
@@ -49,7 +50,7 @@ class Examples(Converting):
 
     def test_faulty_ones_name_every_fault(self) -> None:
         lines = self.not_taken('unpack', content_of(example('refusals.book')), 9)
-        self.assertEqual([line.split()[2] for line in lines], ['9:', '8:', '10:', '11:'])
+        self.assertEqual([line.split()[2] for line in lines], ['9:', '8:', '10:', '11:', '34:'])
         for rater, line in enumerate(lines, 5):
             self.assertIn(f'(rater {rater}, ', line)
 
@@ -132,15 +133,18 @@ class Books(Converting):
         self.not_taken('unpack', book_of([('obligors', [(0, 0, 0)]), ('obligors', [(1, 2, 0)])]), 9)
         self.not_taken('unpack', book_of([('obligors', [(2000000, 0, 0), (1, 0, 1000001)])]), 10)
         self.not_taken('unpack', book_of([('obligors', [(2000000, 0, 0)]), ('obligors', [(1, 2, 0)])]), 11)
+        self.not_taken('unpack', book_of([('obligors', [(1, 0, 5), (1, 0, 4), (1, 2, 1000001)])]), 34, 'byte 30 (rater 1, grade 2, announced)')
+        self.not_taken('unpack', book_of([('obligors', [(2000000, 0, 5), (0, 0, 4)])]), 34)
 
 
 class AtRandom(Converting):
     def rows(self, source: random.Random) -> list[tuple]:
-        """Rows that either kind accepts: the first column is at least the defaults, and all add up to at most 1,000,000. Some are empty."""
+        """Rows that either kind accepts: the first column is at least the defaults, all add up to at most 1,000,000, and no rate falls. Some
+        are empty."""
         grades = source.choice((1, 2, 5, 40))
         largest, occupied, least = source.choice((1, 9, 300, 500_000 // grades)), source.randrange(grades), source.choice((0, 1))
         firsts = [source.randint(1 if grade == occupied else least, largest) for grade in range(grades)]
-        return [(first, source.randint(0, first), source.choice((0, 1_000_000, source.randint(0, 1_000_000)))) for first in firsts]
+        return in_order([(first, source.randint(0, first), source.choice((0, 1_000_000, source.randint(0, 1_000_000)))) for first in firsts])
 
     def test_round_trips(self) -> None:
         source = random.Random(1)

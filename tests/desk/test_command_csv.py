@@ -116,8 +116,14 @@ class Numbers(Converting):
         self.not_taken('pack', SURVIVORS + '4294967295,1,0\n', 11, 'has 4294967296 obligors')
         self.not_taken('pack', OBLIGORS + '999999999999999999,0,0\n', 11, 'line 2, column 1')
 
+    def test_34_a_fall(self) -> None:
+        self.assertEqual(self.packed(OBLIGORS + '1,0,5\n0,0,5\n1,0,6\n'), book_of([('obligors', [(1, 0, 5), (0, 0, 5), (1, 0, 6)])]))
+        self.not_taken('pack', OBLIGORS + '1,0,5\n1,0,7\n1,0,6\n', 34,
+                       'line 4, column 3 (announced): the announced rate 6 ppm is below 7 ppm, that of grade 2 before it')
+
     def test_columns_are_those_of_the_file(self) -> None:
         self.not_taken('pack', 'grade,announced,obligors,defaults\nA,5,3,4\n', 8, 'line 2, column 4 (defaults)')
+        self.not_taken('pack', 'grade,announced,obligors,defaults\nA,5,3,1\nB,4,3,1\n', 34, 'line 3, column 2 (announced)')
 
     def test_the_order_is_that_of_load(self) -> None:
         self.not_taken('pack', OBLIGORS + '0,1,1000001\n', 8)
@@ -126,6 +132,10 @@ class Numbers(Converting):
         self.not_taken('pack', OBLIGORS + '0,0,0\n\n' + OBLIGORS + '1,2,0\n', 9)
         self.not_taken('pack', OBLIGORS + '2000000,0,0\n0,0,0\n', 11)
         self.not_taken('pack', OBLIGORS + '1,0,1000001\n1,2,0\n', 10)
+        self.not_taken('pack', OBLIGORS + '1,0,5\n1,2,4\n', 8)
+        self.not_taken('pack', OBLIGORS + '1,0,5\n1,0,4\n1,2,1000001\n', 34)
+        self.not_taken('pack', OBLIGORS + '0,0,5\n0,0,4\n', 34)
+        self.not_taken('pack', OBLIGORS + '2000000,0,5\n0,0,4\n', 34)
         self.not_taken('pack', OBLIGORS + '2000000,0,0\n\n' + OBLIGORS + '1,2,0\n', 11)
         self.not_taken('pack', (OBLIGORS + '\n') * 17, 3)
 

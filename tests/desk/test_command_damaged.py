@@ -18,6 +18,7 @@ import unittest.mock
 sys.dont_write_bytecode = True
 sys.path.insert(0, os.path.dirname(os.path.abspath(__file__)))
 from running import LIBRARY, Case, Ran, ask, book_of, content_of, csv_text, example, examples  # noqa: E402
+from common import exchanged, in_order  # noqa: E402
 from csv_dress import Dress, damaged  # noqa: E402
 from desk import Desk, Refused  # noqa: E402
 from desk.command import main  # noqa: E402
@@ -28,10 +29,10 @@ LARGE = (0, 1, 999_999, 1_000_000, 1_000_001, 2 ** 31, 2 ** 32 - 1)  # and numbe
 
 
 def rows_of(source: random.Random) -> list[tuple]:
-    """Rows that either kind accepts: the first column is at least the defaults. Grades may be empty, save the last."""
+    """Rows that either kind accepts: the first column is at least the defaults, no rate falls. Grades may be empty, save the last."""
     sizes = [source.randint(source.choice((0, 1)), source.choice((2, 300, 12_000))) for _ in range(source.choice((0, 1, 1, 2, 4, 39)))]
     sizes.append(source.randint(1, source.choice((2, 300, 12_000))))
-    return [(n, source.randint(0, n), source.randint(0, 1_000_000)) for n in sizes]
+    return in_order([(n, source.randint(0, n), source.randint(0, 1_000_000)) for n in sizes])
 
 
 def tables_of(source: random.Random) -> list[tuple]:
@@ -68,8 +69,11 @@ class Damaged(Case):
 
 class Books(Damaged):
     def damaged_book(self, source: random.Random) -> bytes:
-        """A sound book with up to three faults, or none."""
-        book = bytearray(book_of(tables_of(source)))
+        """A sound book with up to three faults, or none; in some, announced rates of each table are exchanged."""
+        tables = tables_of(source)
+        if source.random() < 0.1:
+            tables = [(counts, exchanged(source, rows)) for counts, rows in tables]
+        book = bytearray(book_of(tables))
         for _ in range(source.choice((0, 1, 1, 2, 3))):
             how = source.randrange(7)
             if how == 0:
@@ -137,7 +141,7 @@ class Books(Damaged):
             else:
                 others = ('show', path), ('compare', path), ('pack', path, '-o', self.path('none')), ('show', path, '99')
                 self.asked(*source.choice(others))
-        self.assertEqual(sorted(number for number in seen if number), [2, 3, 6, 7, 8, 9, 10, 11, 31, 32, 33])
+        self.assertEqual(sorted(number for number in seen if number), [2, 3, 6, 7, 8, 9, 10, 11, 31, 32, 33, 34])
         self.assertTrue(all(times > 30 for times in seen.values()), seen)
         self.assertFalse(os.path.exists(self.path('none')))
 
@@ -171,8 +175,8 @@ class Texts(Damaged):
 
     def test_examples_with_faults(self) -> None:
         source = random.Random(2)
-        sound = [content_of(example(name)) for name in examples('.csv')]
-        self.see_many(source, [damaged(source, source.choice(sound)) for _ in range(3500)])
+        shipped = [content_of(example(name)) for name in examples('.csv')]
+        self.see_many(source, [damaged(source, source.choice(shipped)) for _ in range(3500)])
 
     def test_random_tables_with_faults(self) -> None:
         source = random.Random(3)

@@ -133,24 +133,6 @@ class Unit(Asking):
         self.assertIn('the announced rates of a are about 1/10000 of the observed ones: they look like percent', text)
 
 
-class Order(Asking):
-    def falls(self, *announced: int) -> list[str]:
-        """What is asked of grades with these rates, all of which have the mean of them as observed rate."""
-        rows = [(1000, max(1, sum(announced) // (1000 * len(announced))), rate) for rate in announced]
-        return [text for kind, text in self.of_table(*rows) if kind == 'order']
-
-    def test_rates_that_rise_or_stay(self) -> None:
-        self.assertEqual(self.falls(5000, 5000, 6000), [])
-        self.assertEqual(self.falls(5000), [])
-
-    def test_rates_that_fall(self) -> None:
-        said = 'the announced rates of a fall from grade {}; a worse grade is taken to have the higher rate'
-        self.assertEqual(self.falls(5000, 4999), [said.format('1 to 2')])
-        self.assertEqual(self.falls(5000, 5000, 6000, 5000), [said.format('3 to 4')])
-        self.assertEqual(self.falls(4000, 3000, 2000, 1000), [said.format('1 to 2, 2 to 3, 3 to 4')])
-        self.assertEqual(self.falls(5000, 4000, 3000, 2000, 1000), [said.format('1 to 2, 2 to 3, 3 to 4, ..')])
-
-
 class Total(Asking):
     def test_a_line_of_totals(self) -> None:
         rows = [(60, 1, 20000), (40, 3, 80000), (100, 4, 90000)]
@@ -162,7 +144,6 @@ class Total(Asking):
         for rows in ([(60, 1, 20000), (40, 3, 80000), (101, 4, 90000)], [(60, 1, 20000), (40, 3, 80000), (100, 5, 90000)],
                      [(60, 3, 50000), (60, 3, 50000)], [(100, 4, 40000), (60, 1, 40000), (40, 3, 80000)], [(5, 1, 200000)]):
             self.assertEqual(self.of_table(*rows), [])
-
 
 
 class Direction(Asking):
@@ -194,20 +175,20 @@ class Reading(Asking):
 
 
 class Everywhere(Asking):
-    SWAPPED = OBLIGORS + '10,1,200000\n10,2,100000\n'
+    WITH_TOTAL = OBLIGORS + '60,1,20000\n40,3,80000\n100,4,80000\n'
 
     def test_every_command_that_reads_tables_asks(self) -> None:
-        path = self.put('a.csv', self.SWAPPED)
-        self.assertEqual(self.kinds('show', path), ['order'])
-        self.assertEqual(self.kinds('compare', path, path), ['order', 'order'])
-        self.assertEqual(self.kinds('pack', path, '-o', self.path('a.book')), ['order'])
-        self.assertEqual(self.kinds('unpack', self.path('a.book')), ['order'])
-        self.assertEqual(self.kinds('show', self.put('b.csv', self.SWAPPED + '\n' + self.SWAPPED)), ['order', 'order'])
+        path = self.put('a.csv', self.WITH_TOTAL)
+        self.assertEqual(self.kinds('show', path), ['total'])
+        self.assertEqual(self.kinds('compare', path, path), ['total', 'total'])
+        self.assertEqual(self.kinds('pack', path, '-o', self.path('a.book')), ['total'])
+        self.assertEqual(self.kinds('unpack', self.path('a.book')), ['total'])
+        self.assertEqual(self.kinds('show', self.put('b.csv', self.WITH_TOTAL + '\n' + self.WITH_TOTAL)), ['total', 'total'])
 
     def test_of_the_raters_concerned_alone(self) -> None:
-        path = self.put('b.csv', OBLIGORS + '10,1,100000\n10,2,200000\n\n' + self.SWAPPED)
+        path = self.put('b.csv', OBLIGORS + '10,1,100000\n10,2,200000\n\n' + self.WITH_TOTAL)
         self.assertEqual(self.kinds('show', path, '1'), [])
-        self.assertEqual(self.kinds('show', path, '2'), ['order'])
+        self.assertEqual(self.kinds('show', path, '2'), ['total'])
 
     def test_a_refusal_is_asked_about_too(self) -> None:
         found = ask('compare', self.book(('obligors', [(5, 1, 200000)]), ('obligors', [(6, 1, 166667)])))

@@ -27,7 +27,8 @@ CUT_WRONG = {
     'start': (31, 'byte 6: the table of rater 2 is said to start at byte 8; expected byte 36, where the table of rater 1 ends'),
     'end': (32, 'byte 36: the table of rater 2 starts here and its rows end at byte 64; the book ends at byte 56, bytes missing: 8'),
     'leftover': (33, 'byte 64: the table of rater 2, the last, ends here; bytes that follow it: 16, expected none')}
-ROWS = {8: [(5, 1, 0), (1, 2, 0)], 9: [(0, 0, 0), (0, 0, 0)], 10: [(5, 1, 0), (1, 0, 1_000_001)], 11: [(5, 1, 0), (1_000_001, 0, 0)]}
+ROWS = {8: [(5, 1, 0), (1, 2, 0)], 9: [(0, 0, 0), (0, 0, 0)], 10: [(5, 1, 0), (1, 0, 1_000_001)], 11: [(5, 1, 0), (1_000_001, 0, 0)],
+        34: [(5, 1, 7), (1, 0, 6)]}
 FROM_CSV = {3: '\n', 6: OBLIGORS}
 TOGETHER = {23: ([(2, 0, 0)], [(2, 1, 0)]), 24: ([(2, 1, 0)], [(2, 2, 0)]), 25: ([(2, 1, 0)], [(3, 1, 0)])}
 

@@ -72,6 +72,11 @@ class StandIn(Case):
                 ran = ask('report', path)
             self.assertEqual((ran.status, ran.out), (1, f'refused {number}\n'))
             self.assertIn(f'desk: refused {number}: {MEANINGS[number]}; {path}: {byte}', ran.err)
+        path = self.put('a.book', book_of([('obligors', [(5, 1, 7), (0, 0, 6)])]))
+        with unittest.mock.patch.object(main, 'printing_program', lambda: self.program('refused 34\n')):
+            ran = ask('report', path)
+        self.assertEqual((ran.status, ran.out), (1, 'refused 34\n'))
+        self.assertIn(f'desk: refused 34: {MEANINGS[34]}; {path}: byte 30 (rater 1, grade 2, announced): ', ran.err)
 
     def test_a_program_that_fails_or_is_not_there(self) -> None:
         with unittest.mock.patch.object(main, 'printing_program', lambda: self.program('', 3)):
@@ -114,7 +119,8 @@ class Program(Case):
         for content, number in ((b'', 2), (book[:-1], 2), (b'\0' + book[1:], 3), (book[:4] + b'\7' + book[5:], 31),
                                 (book[:6] + b'\0' + book[7:], 6), (book[:7] + b'\2' + book[8:], 7), (bytes(8192), 2), (bytes(8193), 2),
                                 (bytes(1 << 21), 2), (book[:2] + b'\x2d' + book[3:-1], 32), (book[:2] + b'\x2f' + book[3:] + b'\0', 33),
-                                (book_of([('obligors', [(0, 0, 0)] * 3)]), 9), (book_of([('survivors', [(0, 0, 0)] * 3)]), 9)):
+                                (book_of([('obligors', [(0, 0, 0)] * 3)]), 9), (book_of([('survivors', [(0, 0, 0)] * 3)]), 9),
+                                (book_of([('obligors', [(5, 1, 7), (0, 0, 6)])]), 34)):
             outcome = report(self.put('a.book', content), PROGRAM)
             self.assertEqual((outcome.text, outcome.data['grades'], outcome.data['gini']), (f'refused {number}', [], None))
             self.assertEqual([each.number for each in outcome.refusals], [number])

@@ -15,6 +15,7 @@ import unittest
 sys.dont_write_bytecode = True
 sys.path.insert(0, os.path.dirname(os.path.abspath(__file__)))
 from running import EXAMPLES, Case, ask, book_of, content_of, csv_text, example, examples, run  # noqa: E402
+from common import in_order  # noqa: E402
 from books import described  # noqa: E402
 from definitions import decimal, measures_refusal, spread  # noqa: E402
 from expected import about_empty, about_measures, about_sign, grades_data, line_data, measures_data, rater_data  # noqa: E402
@@ -152,12 +153,13 @@ class AllRaters(Showing):
     def test_refused_ones_among_them(self) -> None:
         path = example('refusals.book')
         rows = [rows for _, rows in described(os.path.join(EXAMPLES, 'books.txt'))['refusals.book'].tables]
-        refusals = [None, 23, 24, None, 9, 8, 10, 11]
+        refusals = [None, 23, 24, None, 9, 8, 10, 11, 34]
         scales = [Scale(f'rater {number}', path, number, 'obligors', [] if number > 4 else each) for number, each in enumerate(rows, 1)]
         self.glanced(path, scales, refusals)
 
     def test_a_rater_that_is_refused_is_not_shown(self) -> None:
-        for number, refusal, place in ((5, 9, 'all grades'), (6, 8, 'grade 2, '), (7, 10, 'grade 2, '), (8, 11, 'grade 2, ')):
+        for number, refusal, place in ((5, 9, 'all grades'), (6, 8, 'grade 2, '), (7, 10, 'grade 2, '), (8, 11, 'grade 2, '),
+                                       (9, 34, 'grade 2, announced')):
             line, = self.refused(refusal, 'show', example('refusals.book'), str(number))
             self.assertRegex(line, rf'byte \d+ \(rater {number}, {place}')
 
@@ -195,7 +197,7 @@ class AtRandom(Showing):
             defaults = 0 if few == 0 else obligors if few == 2 else source.randint(0, obligors)
             rows.append((obligors, defaults, source.choice((0, 1_000_000, source.randint(0, 1_000_000)))))
         counts = source.choice(('obligors', 'survivors'))
-        return counts, by(counts, rows)
+        return counts, by(counts, in_order(rows))
 
     def test_three_hundred_tables(self) -> None:
         source, refusals, empty = random.Random(2), Counter(), Counter()

@@ -60,7 +60,7 @@ class Status(Case):
             self.assertTrue(ran.err.splitlines()[-1].startswith('desk: '), ran.err)
 
     def test_questions_are_no_refusals(self) -> None:
-        ran = run('show', self.put('a.csv', OBLIGORS + '5,1,200000\n5,2,100000\n'))
+        ran = run('show', self.put('a.csv', OBLIGORS + '5,2,100000\n5,1,200000\n'))
         self.assertEqual(ran.status, 0)
         self.assertTrue(ran.out and ran.err.startswith('desk: note: '), ran.err)
 

@@ -2,8 +2,8 @@
 prints.
 
 In these pages a line of an indented block that begins with a dollar sign is a command line; the lines behind it, up to the next one, to
-Python or to the block's end, are what it prints on standard output. Lines that begin with >>> are Python. Command lines within a
-sentence are run too.
+Python or to the block's end, are what it prints on standard output; where they say that something is refused, its status is 1, and what
+it prints on standard error follows. Lines that begin with >>> are Python. Command lines within a sentence are run too.
 
     python3 tests/desk/test_documents.py      # from anywhere
 """
@@ -29,6 +29,7 @@ NOT_RUN = {'.ci/run': 'it is what runs this test', 'rt ci': '.ci/run runs it'}
 PROGRAMS = re.compile(r'(\./|\.ci/|bench/|target/|tests/|tools/|rt |cc |gcc |cargo |python3? |desk )')
 IN_A_SENTENCE = re.compile(r'(?:`|system\(")((?:\./desk|\.ci/\w+|bench/\w+|target/[\w/]+|rt|cc|cargo|python3) [^`"]*)[`"]')
 MENTIONED = re.compile(r'[A-Z]{3,}|\.\.|^\./desk (compare|show|pack|unpack|report)$')  # no command line, but the name of one
+REFUSED = re.compile('^desk: refused ', re.M)
 BYTES = re.compile(r'^\| (\d+) \| `([0-9a-f ]+)` \| (\d+) \|', re.M)
 
 
@@ -63,12 +64,12 @@ class Pages(unittest.TestCase):
         self.top = folder.name
         copy_repository(self.top, 'rlib', 'stamp', 'staticlib', 'desk', 'bin', 'bench')
 
-    def run_line(self, line: str) -> str:
-        """What a command line prints, as a shell at the top of the repository runs it."""
+    def run_line(self, line: str, status: int = 0) -> str:
+        """What a command line prints, as a shell at the top of the repository runs it, and where it refuses something, what it says."""
         ended = subprocess.run(['/bin/sh', '-c', line], cwd=self.top, stdin=subprocess.DEVNULL, stdout=subprocess.PIPE,
                                stderr=subprocess.PIPE, text=True, check=False)
-        self.assertEqual(ended.returncode, 0, f'{line}\n{ended.stdout}{ended.stderr}')
-        return ended.stdout
+        self.assertEqual(ended.returncode, status, f'{line}\n{ended.stdout}{ended.stderr}')
+        return ended.stdout + ended.stderr if status else ended.stdout
 
     def test_every_command_line_runs_and_prints_what_is_shown(self) -> None:
         count = 0
@@ -77,7 +78,7 @@ class Pages(unittest.TestCase):
                 if line in NOT_RUN:
                     continue
                 with self.subTest(f'{name}: {line}'):
-                    printed = self.run_line(line)
+                    printed = self.run_line(line, 1 if REFUSED.search(shown or '') else 0)
                     self.assertEqual(printed if shown is None else shown, printed)
                     count += 1
         self.assertGreater(count, 12)

@@ -261,12 +261,6 @@ class Questions(Case):
         self.assertEqual(self.kinds([(0, 0, 0), (1000, 10, 10_000)]), [])
         self.assertEqual(self.kinds([(0, 0, 1), (1000, 10, 1)]), ['unit'])
 
-    def test_order(self) -> None:
-        """The announced rates of empty grades are to rise with the others."""
-        one = (100, 1, 10_000)
-        for rows in ([one, (0, 0, 5_000), (100, 2, 20_000)], [(0, 0, 20_000), one], [one, (0, 0, 0)]):
-            self.assertEqual(self.kinds(rows), ['order'], rows)
-
 
 class Examples(Case):
     def test_agencies_pool_to_the_source(self) -> None:

@@ -23,10 +23,10 @@ STRUCTS = {name: getattr(library, 'DeskImage' if name == 'Desk' else name) for n
            if name not in C_ALONE}
 TYPES = {'uint8_t': c_uint8, 'uint32_t': c_uint32, 'int64_t': c_int64, 'size_t': c_size_t, 'double': c_double, **STRUCTS}
 # What documents 01 and 02 have each call refuse, in their order.
-REFUSED = {'desk_empty': [], 'desk_load': [1, 21, 2, 3, 4, 31, 32, 6, 7, 32, 33, 8, 10, 9, 11], 'desk_clear': [1, 22], 'desk_pool': [1, 22, 13],
-           'desk_cheapest': [1, 22, 12], 'desk_compare': [22, 23, 24, 25], 'desk_measures': [1, 22, 23, 24], 'desk_brier': [1, 22],
-           'desk_spread': [1, 22], 'desk_write': [22, 13], 'desk_book': [6, 7, 8, 10, 9, 11], 'desk_load_rows': [1, 21, 6, 7, 8, 10, 9, 11],
-           'desk_wrong_cut': []}
+REFUSED = {'desk_empty': [], 'desk_load': [1, 21, 2, 3, 4, 31, 32, 6, 7, 32, 33, 8, 10, 34, 9, 11], 'desk_clear': [1, 22],
+           'desk_pool': [1, 22, 13], 'desk_cheapest': [1, 22, 12], 'desk_compare': [22, 23, 24, 25], 'desk_measures': [1, 22, 23, 24],
+           'desk_brier': [1, 22], 'desk_spread': [1, 22], 'desk_write': [22, 13], 'desk_book': [6, 7, 8, 10, 34, 9, 11],
+           'desk_load_rows': [1, 21, 6, 7, 8, 10, 34, 9, 11], 'desk_wrong_cut': []}
 
 
 def fields(body: str) -> list[tuple[str, type]]:

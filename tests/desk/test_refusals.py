@@ -101,7 +101,7 @@ class Places(Case):
 
 
 class Loads(Case):
-    """2 to 11 and 31 to 33, each with a fault beside it that comes later in the order."""
+    """2 to 11 and 31 to 34, each with a fault beside it that comes later in the order."""
 
     def see(self, number: int, book: bytes, rater: int = 1, where: str = '') -> None:
         for place, other in ((1, (None, MIXED)), (2, (MIXED, None))):
@@ -182,6 +182,17 @@ class Loads(Case):
             self.see(10, put(PAIR, (12, 'I', 0), (16, 'I', 0), (20, 'I', announced)), 1, 'byte 20 ')  # before 9
             self.see(10, put(PAIR, *((at, 'I', 0) for at in (28, 32, 40, 44)), (48, 'I', announced)), 2, 'byte 48 ')
             self.see(10, encoded([(0, [(5, 1, announced), (5, 6, 0)])]), 1, 'byte 18 ')  # row by row
+
+    def test_34_a_fall(self) -> None:
+        """After 8 and 10 of its row and of those before, and before all else."""
+        fall = ((36, 'I', 9), (48, 'I', 8))
+        said = 'byte 48 (rater 2, grade 2, announced): the announced rate 8 ppm is below 9 ppm, that of grade 1 before it'
+        for later in ((), ((40, 'I', 1_000_001),), tuple((at, 'I', 0) for at in (28, 32, 40, 44))):  # 11, 9
+            self.see(34, put(PAIR, *fall, *later), 2, said)
+        self.see(10, put(PAIR, *fall, (36, 'I', 1_000_001)), 2, 'byte 36 ')
+        for rows in ([(5, 6, 9), (5, 1, 8)], [(5, 1, 9), (5, 6, 8)]):
+            self.see(8, encoded([(0, rows)]), 1, 'defaults are above')
+        self.see(34, encoded([(0, [(5, 1, 9), (5, 1, 8), (5, 6, 1_000_001)])]), 1, 'byte 30 ')  # row by row
 
     def test_11_obligors(self) -> None:
         self.see(11, put(PAIR, (12, 'I', 1_000_001)), 1, 'byte 12 ')

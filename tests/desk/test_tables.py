@@ -163,6 +163,8 @@ class Refusals(unittest.TestCase):
         self.refused(9, 'nobody is in any grade', obligors=[0, 0], defaults=[0, 0], announced=[0, 1_000_000])
         self.refused(9, 'nobody is in any grade', survivors=[0], defaults=[0], announced=[0])
         self.refused(11, 'grade 2: ', obligors=[500_000, 500_001, 1], defaults=[0, 0, 0], announced=[0, 0, 0])
+        self.refused(34, 'grade 3: the announced rate 4000 ppm is below 12000 ppm, that of grade 2 before it', obligors=[1, 1, 1],
+                     defaults=[0, 0, 0], announced=[500, 12_000, 4000])
 
     def test_numbers_beyond_32_bits_do_not_wrap(self) -> None:
         """Sums are true sums (docs/DECISIONS.md), however large."""

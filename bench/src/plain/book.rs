@@ -61,7 +61,7 @@ fn read_rows(table: &[u8], place: &mut Place) -> Result<(), Refusal> {
     let of_survivors = table[1] == 1;
     let rows = table[4..4 + 12 * grades].as_chunks::<12>().0;
     let columns = place.obligors.iter_mut().zip(&mut place.defaults).zip(&mut place.announced);
-    let mut total = 0u64;
+    let (mut total, mut before) = (0u64, 0);
     for (row, ((obligors, defaults), announced)) in rows.iter().zip(columns) {
         let (column, d, p) = (four(row, 0), four(row, 4), four(row, 8));
         let n = if of_survivors { column.saturating_add(d) } else { column };
@@ -71,6 +71,10 @@ fn read_rows(table: &[u8], place: &mut Place) -> Result<(), Refusal> {
         if p > MILLION {
             return Err(10);
         }
+        if p < before {
+            return Err(34);
+        }
+        before = p;
         total += u64::from(n);
         (*obligors, *defaults, *announced) = (n, d, p);
     }

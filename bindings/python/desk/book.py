@@ -113,7 +113,7 @@ def end_within(book: bytes, start: int, rater: int, part_ends: str, end: int) ->
 
 
 def row_refusals(tables: Sequence[TableInBook], rater: int) -> Iterator[Refused]:
-    """Everything that load would refuse in a rater's rows, in its order: row by row 8, 10, then 9, 11."""
+    """Everything that load would refuse in a rater's rows, in its order: row by row 8, 10, 34, then 9, 11."""
     table = tables[rater - 1]
     names = (table.counts, 'defaults', 'announced')
     for fault in faults(table.counts, table.rows):

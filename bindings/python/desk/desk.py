@@ -69,8 +69,8 @@ class Desk:
     def load(self, place: int, source: Table | bytes, rater: int = 1) -> None:
         """Fills an empty place with a table, or with the table of a rater, counted from 1, of a book's bytes.
 
-        Refuses 1, 21, 2, 3, 4; table by table 31, 32, 6, 7, 32; 33; of the rater's rows, one by one, 8, 10; 9, 11. From 31 on and from 6 to
-        11 `where` of what is raised says the byte, and whose table it is."""
+        Refuses 1, 21, 2, 3, 4; table by table 31, 32, 6, 7, 32; 33; of the rater's rows, one by one, 8, 10, 34; 9, 11. From 31 on and from
+        6 to 11 `where` of what is raised says the byte, and whose table it is."""
         book = encode([(source.counts, source.rows)]) if isinstance(source, Table) else as_bytes(source)
         copied = (c_ubyte * len(book)).from_buffer_copy(book)
         refusal = self._library.desk_load(byref(self._image), number(place, 'a place'), copied, len(book), number(rater, 'a rater'))

@@ -23,6 +23,7 @@ MEANINGS = {
     31: 'a table starts elsewhere than where the last one ended',
     32: 'a table runs past the end, in header or rows',
     33: 'bytes after the last table',
+    34: 'announced rate below that of the row before',
 }
 
 

@@ -51,12 +51,12 @@ def obligors_of(counts: str, first: int, defaults: int) -> int:
 
 
 def faults(counts: str, rows: Sequence[Row]) -> Iterator[Fault]:
-    """Everything that load would refuse in these rows. The first is what it does refuse: 6, then row by row 8, 10, then 9, 11."""
+    """Everything that load would refuse in these rows. The first is what it does refuse: 6, then row by row 8, 10, 34, then 9, 11."""
     if not rows:
         yield Fault(6, None, 0, f'no grade; a table has 1 to {MAX_GRADES}')
     if len(rows) > MAX_GRADES:
         yield Fault(6, MAX_GRADES, 0, f'one grade too many; a table has 1 to {MAX_GRADES}')
-    total, above = 0, None
+    falls, total, above = falls_in(rows), 0, None
     for grade, (first, defaults, announced) in enumerate(rows):
         obligors = obligors_of(counts, first, defaults)
         if defaults > obligors:
@@ -64,6 +64,8 @@ def faults(counts: str, rows: Sequence[Row]) -> Iterator[Fault]:
                                      'the defaulted out? Then it counts survivors')
         if announced > MAX_ANNOUNCED:
             yield Fault(10, grade, 2, f'the announced rate {readable(announced)} is above {MAX_ANNOUNCED} ppm')
+        if grade in falls:
+            yield Fault(34, grade, 2, falls[grade])
         total += obligors
         if total > MAX_OBLIGORS and above is None:
             above = Fault(11, grade, 0, f'the table has {readable(total)} obligors up to here, more than {MAX_OBLIGORS}')
@@ -71,6 +73,27 @@ def faults(counts: str, rows: Sequence[Row]) -> Iterator[Fault]:
         yield Fault(9, None, 0, 'nobody is in any grade; at least one has to have an obligor')
     if above:
         yield above
+
+
+def falls_in(rows: Sequence[Row]) -> dict[int, str]:
+    """The grades, counted from 0, that announce less than the one before, and why they are refused. A rate that is refused itself, with
+    10, makes no fall of the next: once it is mended there may be none."""
+    rates = [announced for _, _, announced in rows]
+    grades = [grade for grade in range(1, len(rates)) if rates[grade] < rates[grade - 1] <= MAX_ANNOUNCED]
+    found = {grade: f'the announced rate {rates[grade]} ppm is below {rates[grade - 1]} ppm, that of grade {grade} before it'
+             for grade in grades}
+    if len(grades) > 1 and rates == sorted(rates, reverse=True):
+        found[grades[0]] += '. No rate rises: is the first row the best grade?'
+    if len(rates) - 1 in found and ends_in_total(rows):
+        found[len(rates) - 1] += f'. Grade {len(rates)} has as many obligors and defaults as all others together: is it a total?'
+    return found
+
+
+def ends_in_total(rows: Sequence[Row]) -> bool:
+    """Whether the last row has the counts of all others together, at least two of which are occupied: it may be a sheet's line of totals."""
+    *others, last = rows
+    occupied = [row for row in others if row[0] or row[1]]
+    return len(occupied) > 1 and all(last[column] == sum(row[column] for row in others) for column in (0, 1))
 
 
 def readable(number: int) -> str:
@@ -116,7 +139,8 @@ class Table:
 
     Exactly one of `obligors` (everybody in the grade, the defaulted included) and `survivors` (the defaulted left out) is given. Survivors
     taken for obligors change every rate and can make the losing scale win, while every figure still looks right. Grades may be empty, with
-    0 in both columns, as long as one is not.
+    0 in both columns, as long as one is not. Announced rates never fall from a grade to the next, empty ones included: two that are swapped
+    would change the Brier score, and it would still look right.
 
     >>> Table(obligors=[10, 20], defaults=[1, 4], announced=[100_000, 200_000], name='in-house')
     Table 'in-house': 2 grades, 30 obligors = 25 survivors + 5 defaults

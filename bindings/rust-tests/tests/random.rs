@@ -182,12 +182,31 @@ fn has_empty_grade(desk: &Desk, place: u32) -> bool {
     desk.grades(place).any(|grade| grade.obligors == 0)
 }
 
-/// The lines that the C boundary answers to a script, and how many of its poolings were of tables
-/// with empty grades.
-fn answers(script: &Script) -> (String, u32) {
+/// How often scripts met what is rarer than the rest.
+#[derive(Default)]
+struct Met {
+    poolings_with_empty_grades: u32,
+    falling_rates: u32,
+}
+
+impl Met {
+    /// `desk` is the one that answered.
+    fn count(&mut self, desk: &Desk, call: &Call, answer: &Answer) {
+        match (call, answer) {
+            (&Call::Pool { place, .. }, Answer::Pool(Ok(()), _)) => {
+                self.poolings_with_empty_grades += u32::from(has_empty_grade(desk, place));
+            }
+            (_, Answer::Load(Err(34))) => self.falling_rates += 1,
+            _ => (),
+        }
+    }
+}
+
+/// The lines that the C boundary answers to a script.
+fn answers(script: &Script, met: &mut Met) -> String {
     let mut desk = Desk::empty();
     let mut plain = reference::desk::Desk::fresh();
-    let (mut lines, mut with_empty_grades) = (String::new(), 0);
+    let mut lines = String::new();
     for call in &script.calls {
         let before = desk.clone();
         let answer = answer(&mut desk, call);
@@ -196,30 +215,29 @@ fn answers(script: &Script) -> (String, u32) {
         assert!(changes_desk(&answer) || desk == before, "{call}");
         plain.call(call);
         assert!(holds_the_same(&desk, &plain), "{call}\n{desk:?}");
-        if let (&Call::Pool { place, .. }, Answer::Pool(Ok(()), _)) = (call, &answer) {
-            with_empty_grades += u32::from(has_empty_grade(&desk, place));
-        }
+        met.count(&desk, call, &answer);
         lines += &answer.line();
         lines.push('\n');
     }
     if !script.tail.is_empty() {
         lines += "end\n";
     }
-    (lines, with_empty_grades)
+    lines
 }
 
 fn agrees(seed: u64) {
     println!("{CALLS} calls, seed {seed} (DESK_SEED={seed} repeats it)");
-    let mut with_empty_grades = 0;
+    let mut met = Met::default();
     for (seed, calls) in plan(seed, CALLS) {
         let script = Script::generate(seed, calls);
-        let (lines, with_empty) = answers(&script);
+        let lines = answers(&script, &mut met);
         if let Err(difference) = judge(&script, &lines) {
             panic!("{difference:#?}");
         }
-        with_empty_grades += with_empty;
     }
-    assert!(with_empty_grades >= 20, "{with_empty_grades} poolings");
+    let (poolings, falls) = (met.poolings_with_empty_grades, met.falling_rates);
+    assert!(poolings >= 20, "{poolings} with empty grades");
+    assert!(falls >= 20, "{falls} falling rates");
 }
 
 #[test]

@@ -5,10 +5,12 @@ mod common;
 
 use common::{Rows, book_of, desk_with};
 use desk::{Cutoff, Desk, Fraction, Measures, Price, Spread, sys};
+use reference::book;
 use reference::damage::WAYS;
 use reference::draft::Draft;
 use reference::population::any_table;
 use reference::random::Random;
+use reference::table::Table;
 use std::fmt::Debug;
 use std::hint::black_box;
 
@@ -200,6 +202,57 @@ fn all_grades_empty() {
             occupied[at + 3] = 1; // 16,777,217 obligors
             load_refused(&desk, 2, &occupied, 1, 11);
         }
+    }
+}
+
+/// A table whose grades announce these rates.
+fn announcing(rows: Rows, rates: &[u64]) -> Table {
+    let mut table = Table::of_rows(rows);
+    table.announce(rates);
+    table
+}
+
+/// of both kinds, in every row but the first, behind 8 and 10; equal neighbours pass.
+#[test]
+fn falling_rates() {
+    const ONE_EACH: Rows = &[(1, 0); 40];
+    const ALL_EMPTY: Rows = &[(0, 0); 40];
+    const TOO_MANY: Rows = &[(1_000_000, 0); 40];
+    let desk = desk_with(None, Some(MIXED));
+    for (rows, kind) in [ONE_EACH, ALL_EMPTY, TOO_MANY]
+        .into_iter()
+        .flat_map(|rows| [(rows, 0), (rows, 1)])
+    {
+        for row in 1..40 {
+            let mut rates = [7; 40];
+            rates[row..].fill(6);
+            let mut falls = book::write_kinds(&[(&announcing(rows, &rates), kind)]);
+            load_refused(&desk, 1, &falls, 1, 34);
+            let defaults = 10 + 12 * row + 4;
+            falls[defaults + 3] = 1; // more defaults than obligors
+            load_refused(&desk, 1, &falls, 1, if kind == 0 { 8 } else { 34 });
+            rates[row - 1] = 1_000_001;
+            let high = book::write_kinds(&[(&announcing(rows, &rates), kind)]);
+            load_refused(&desk, 1, &high, 1, 10);
+            rates[..row].fill(6);
+            let equal = book::write_kinds(&[(&announcing(ONE_EACH, &rates), kind)]);
+            assert_eq!(sys::load(&mut desk.clone(), 1, &equal, 1), 0);
+        }
+    }
+}
+
+/// Whatever the other raters of the book announce.
+#[test]
+fn falling_rates_of_others() {
+    let desk = desk_with(Some(MIXED), None);
+    let (rises, falls) = (announcing(MIXED, &[5, 5, 6]), announcing(MIXED, &[5, 6, 5]));
+    for rising in 1..=16 {
+        let table = |rater| if rater == rising { &rises } else { &falls };
+        let book = book::write(&(1..=16).map(table).collect::<Vec<&Table>>());
+        for rater in (1..=16).filter(|&rater| rater != rising) {
+            load_refused(&desk, 2, &book, rater, 34);
+        }
+        assert_eq!(sys::load(&mut desk.clone(), 2, &book, rising), 0);
     }
 }
 

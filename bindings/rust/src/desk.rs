@@ -53,9 +53,9 @@ impl Desk {
     /// 4 ([`Refusal::Rater`]); then table by table 31 ([`Refusal::TableStart`]),
     /// 32 ([`Refusal::TableEnd`]) of its header, 6 ([`Refusal::Grades`]), 7 ([`Refusal::Kind`]),
     /// 32 ([`Refusal::TableEnd`]) of its rows; then 33 ([`Refusal::Leftover`]); then row by row of
-    /// this rater 8 ([`Refusal::Defaults`]), 10 ([`Refusal::Announced`]); then 9
-    /// ([`Refusal::NoObligors`]) where all of them are empty; then 11 ([`Refusal::Obligors`]). Where
-    /// a table is not in its place, or bytes follow the last,
+    /// this rater 8 ([`Refusal::Defaults`]), 10 ([`Refusal::Announced`]),
+    /// 34 ([`Refusal::FallingRate`]); then 9 ([`Refusal::NoObligors`]) where all of them are empty;
+    /// then 11 ([`Refusal::Obligors`]). Where a table is not in its place, or bytes follow the last,
     /// [`WrongCut::find`](crate::WrongCut::find) says at which table and byte.
     pub fn load(&mut self, place: Place, book: &[u8], rater: u32) -> Result<(), Refusal> {
         accepted(sys::load(self, place.into(), book, rater))
@@ -78,8 +78,8 @@ impl Desk {
     ///
     /// As [`load`](Desk::load) of a book with this table: 21 ([`Refusal::Loaded`]),
     /// 6 ([`Refusal::Grades`]); then row by row 8 ([`Refusal::Defaults`]) (by obligors only),
-    /// 10 ([`Refusal::Announced`]); then 9 ([`Refusal::NoObligors`]) where all are empty; then
-    /// 11 ([`Refusal::Obligors`]).
+    /// 10 ([`Refusal::Announced`]), 34 ([`Refusal::FallingRate`]); then 9 ([`Refusal::NoObligors`])
+    /// where all are empty; then 11 ([`Refusal::Obligors`]).
     pub fn load_table(&mut self, place: Place, table: &Table) -> Result<(), Refusal> {
         self.load(place, &table::bytes(slice::from_ref(table)), 1)
     }

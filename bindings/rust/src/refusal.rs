@@ -83,6 +83,7 @@ refusals! {
     TableStart = 31, "a table starts elsewhere than where the last one ended";
     TableEnd = 32, "a table runs past the end, in header or rows";
     Leftover = 33, "bytes after the last table";
+    FallingRate = 34, "announced rate below that of the row before";
 }
 
 impl Refusal {

@@ -249,7 +249,7 @@ unsafe extern "C" {
 }
 
 /// Fills an empty place with the table of a rater of a book. Refuses 1, 21, 2, 3, 4; table by
-/// table 31, 32, 6, 7, 32; 33; of the rater's rows, one by one, 8, 10; 9; 11.
+/// table 31, 32, 6, 7, 32; 33; of the rater's rows, one by one, 8, 10, 34; 9; 11.
 ///
 /// ```
 /// use desk::{sys, Desk, Table};

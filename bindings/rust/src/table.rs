@@ -56,6 +56,19 @@ use crate::{GRADES, RATERS};
 /// # Ok::<(), desk::Refusal>(())
 /// ```
 ///
+/// Announced rates may stay the same from one grade to the next, empty ones included, but not fall:
+/// Brier would score two that were swapped as if they had been announced so.
+///
+/// ```
+/// use desk::{Desk, Place, Refusal, Table};
+///
+/// let mut desk = Desk::empty();
+/// desk.load_table(Place::First, &Table::by_obligors().grade(5, 0, 400).grade(0, 0, 400).grade(5, 2, 90_000))?;
+/// let swapped = Table::by_obligors().grade(5, 0, 400).grade(0, 0, 90_000).grade(5, 2, 400);
+/// assert_eq!(desk.load_table(Place::Second, &swapped), Err(Refusal::FallingRate));
+/// # Ok::<(), desk::Refusal>(())
+/// ```
+///
 /// A table is judged where it is loaded or made a book of, by the library's own load. Two tables are
 /// equal if they are written alike, with the same first column; whether two hold the same grades is
 /// seen where they are loaded.
@@ -107,7 +120,8 @@ impl Table {
     }
 
     /// Adds the next grade, worse than those before: its obligors or survivors, as the table was
-    /// begun, its defaults, and its announced default rate in ppm (0.5% is 5000).
+    /// begun, its defaults, and its announced default rate in ppm (0.5% is 5000), not below that of
+    /// the grade before.
     ///
     /// ```
     /// use desk::{Desk, Place, Table};
@@ -159,8 +173,9 @@ impl Table {
     ///
     /// What load of the book refuses, tried for each rater: 3 ([`Refusal::Raters`]) for no table or
     /// more than [`RATERS`]; then, table by table, 6 ([`Refusal::Grades`]); then, table by table,
-    /// 8 ([`Refusal::Defaults`]) (by obligors only) and 10 ([`Refusal::Announced`]) row by row, 9
-    /// ([`Refusal::NoObligors`]) where all of them are empty, and 11 ([`Refusal::Obligors`]).
+    /// 8 ([`Refusal::Defaults`]) (by obligors only), 10 ([`Refusal::Announced`]) and
+    /// 34 ([`Refusal::FallingRate`]) row by row, 9 ([`Refusal::NoObligors`]) where all of them are
+    /// empty, and 11 ([`Refusal::Obligors`]).
     pub fn book(tables: &[Table]) -> Result<Vec<u8>, Refusal> {
         let book = bytes(tables);
         for rater in (1..).take(tables.len().max(1)) {

@@ -27,7 +27,7 @@ fn refusals_have_their_numbers_and_no_others() {
         numbers()
             .filter(|&number| Refusal::try_from(number).is_ok())
             .count(),
-        20
+        21
     );
 }
 
@@ -39,6 +39,16 @@ fn number_5_is_never_given() {
     let layout = [31, 32, 33].map(Refusal::try_from);
     let expected = [Refusal::TableStart, Refusal::TableEnd, Refusal::Leftover];
     assert_eq!(layout, expected.map(Ok));
+}
+
+/// Document 02, R-5.
+#[test]
+fn number_34_is_a_falling_rate() {
+    assert_eq!(Refusal::try_from(34), Ok(Refusal::FallingRate));
+    assert_eq!(
+        Refusal::FallingRate.to_string(),
+        "refused 34: announced rate below that of the row before"
+    );
 }
 
 #[test]

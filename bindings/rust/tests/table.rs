@@ -111,11 +111,14 @@ fn empty_grades() {
             assert_eq!(load(&high), Err(Refusal::Announced), "{count}");
         }
         for better in 0..GRADES {
-            let worse = std::iter::repeat_n((0, 0, 0), GRADES - 1 - better);
-            let occupied = |row| empty(better).grades([row]).grades(worse.clone());
-            assert_eq!(load(&occupied((1, 0, 0))), Ok(()), "{better}");
-            assert_eq!(load(&occupied((1, 1, 0))), Ok(()), "{better}");
-            let many = occupied((1_000_001, 0, 0));
+            let worse = std::iter::repeat_n((0, 0, 1_000_000), GRADES - 1 - better);
+            let occupied = |count, defaults| {
+                let row = (count, defaults, 1_000_000);
+                empty(better).grades([row]).grades(worse.clone())
+            };
+            assert_eq!(load(&occupied(1, 0)), Ok(()), "{better}");
+            assert_eq!(load(&occupied(1, 1)), Ok(()), "{better}");
+            let many = occupied(1_000_001, 0);
             assert_eq!(load(&many), Err(Refusal::Obligors), "{better}");
         }
     }
@@ -131,14 +134,65 @@ fn empty_grades() {
 /// They stay in the table, where they were.
 #[test]
 fn empty_grades_are_held() {
-    let rows = [(0, 0, 5), (3, 2, 400_000), (0, 0, 6), (0, 1, 7), (0, 0, 8)];
+    let rows = [(0, 0, 5), (3, 2, 6), (0, 0, 7), (0, 1, 8), (0, 0, 400_000)];
     let table = Table::by_survivors().grades(rows);
     let mut desk = Desk::empty();
     assert_eq!(desk.load_table(Place::Second, &table), Ok(()));
     let held: Table = desk.grades(Place::Second).collect();
-    let rows = [(0, 0, 5), (5, 2, 400_000), (0, 0, 6), (1, 1, 7), (0, 0, 8)];
+    let rows = [(0, 0, 5), (5, 2, 6), (0, 0, 7), (1, 1, 8), (0, 0, 400_000)];
     assert_eq!(held, Table::by_obligors().grades(rows));
     assert_eq!(Table::book(&[held]), desk.write());
+}
+
+/// Grades that announce these rates, the first, second or third of every three empty (0, 1, 2) or none (3).
+fn announcing(begun: fn() -> Table, rates: &[u32], empty: usize) -> Table {
+    let row = |(grade, &rate)| (u32::from(grade % 3 != empty), 0, rate);
+    begun().grades(rates.iter().enumerate().map(row))
+}
+
+/// the rate of a row is held to that of the row just before, of empty grades as well.
+#[test]
+fn falling_rates() {
+    let falling = Err(Refusal::FallingRate);
+    for begun in [Table::by_obligors, Table::by_survivors] {
+        for (row, empty) in (1..GRADES).flat_map(|row| (0..=3).map(move |empty| (row, empty))) {
+            for (below, expected) in [(0, Ok(())), (1, falling)] {
+                let mut rates: Vec<u32> = (100..).step_by(2).take(GRADES).collect();
+                rates[row] = rates[row - 1] - below;
+                for rates in [&rates[..], &rates[..=row]] {
+                    let answer = load(&announcing(begun, rates, empty));
+                    assert_eq!(answer, expected, "{empty}: {rates:?}");
+                }
+            }
+        }
+        for rates in [[1, 0], [1_000_000, 999_999], [1_000_000, 0]] {
+            assert_eq!(load(&announcing(begun, &rates, 3)), falling, "{rates:?}");
+        }
+    }
+}
+
+/// 34 stands behind 8 and 10 of its row, and before whatever comes later.
+#[test]
+fn a_falling_rate_and_another_fault() {
+    let falls = |begun: fn() -> Table| begun().grade(1, 0, 9).grade(1, 0, 8);
+    for begun in [Table::by_obligors, Table::by_survivors] {
+        let falling = Err(Refusal::FallingRate);
+        assert_eq!(load(&falls(begun).grade(1, 0, 1_000_001)), falling);
+        assert_eq!(load(&begun().grade(0, 0, 9).grade(0, 0, 8)), falling);
+        let many = [(1_000_001, 0, 9), (u32::MAX, 0, 8)];
+        assert_eq!(load(&begun().grades(many)), falling);
+        // a rate that is too high is told before the fall behind it
+        let high = begun().grade(1, 0, 1_000_001).grade(1, 0, 1_000_000);
+        assert_eq!(load(&high), Err(Refusal::Announced));
+    }
+    let (obligors, survivors) = (Table::by_obligors, Table::by_survivors);
+    let in_the_row = |begun: fn() -> Table| begun().grade(1, 0, 9).grade(1, 2, 8);
+    assert_eq!(load(&in_the_row(obligors)), Err(Refusal::Defaults));
+    assert_eq!(load(&in_the_row(survivors)), Err(Refusal::FallingRate));
+    let earlier = obligors().grade(1, 2, 9).grade(1, 0, 8);
+    assert_eq!(load(&earlier), Err(Refusal::Defaults));
+    let later = falls(obligors).grade(1, 2, 9);
+    assert_eq!(load(&later), Err(Refusal::FallingRate));
 }
 
 #[test]
@@ -146,9 +200,11 @@ fn a_loaded_place_comes_first() {
     let mut desk = Desk::empty();
     let good = Table::by_obligors().grade(2, 1, 0);
     assert_eq!(desk.load_table(Place::First, &good), Ok(()));
+    let falls = Table::by_obligors().grade(2, 1, 9).grade(2, 1, 8);
     let bad = [
         Table::by_obligors(),
         Table::by_obligors().grade(2, 3, 0),
+        falls.clone(),
         good.clone(),
     ];
     for table in &bad {
@@ -159,6 +215,10 @@ fn a_loaded_place_comes_first() {
         desk.load_table(Place::Second, &bad[0]),
         Err(Refusal::Grades)
     );
+    assert_eq!(
+        desk.load_table(Place::Second, &falls),
+        Err(Refusal::FallingRate)
+    );
     assert_eq!(desk, before);
     assert_eq!(desk.load_table(Place::Second, &good), Ok(()));
 }
@@ -168,10 +228,13 @@ fn every_rater_of_a_book_is_tried() {
     let good = Table::by_survivors().grade(2, 1, 0);
     let empty = Table::by_survivors().grade(0, 0, 0);
     let upside_down = Table::by_obligors().grade(2, 3, 0);
+    let falls = Table::by_survivors().grade(2, 1, 9).grade(2, 1, 8);
     let mut tables = vec![good.clone(); RATERS];
     for rater in 0..RATERS {
         tables[rater] = empty.clone();
         assert_eq!(Table::book(&tables), Err(Refusal::NoObligors), "{rater}");
+        tables[rater] = falls.clone();
+        assert_eq!(Table::book(&tables), Err(Refusal::FallingRate), "{rater}");
         tables[rater] = good.clone();
     }
     // rater by rater; but the layout, which the count of grades is a part of, before any rows
@@ -184,6 +247,11 @@ fn every_rater_of_a_book_is_tried() {
         Err(Refusal::NoObligors)
     );
     assert_eq!(book(&[&good, &upside_down, &empty]), Err(Refusal::Defaults));
+    assert_eq!(
+        book(&[&good, &falls, &upside_down]),
+        Err(Refusal::FallingRate)
+    );
+    assert_eq!(book(&[&empty, &falls]), Err(Refusal::NoObligors));
     assert_eq!(
         book(&[&upside_down, &good, &Table::by_obligors()]),
         Err(Refusal::Grades)

@@ -1,4 +1,4 @@
-//! The worked tables a to k of document 01, and those of of document 02.
+//! The worked tables a to k of document 01, and those of of document 02.
 
 mod common;
 
@@ -267,8 +267,9 @@ fn r4_rates_of_empty_grades() {
 
 #[test]
 fn r4_an_empty_grade_adds_nothing() {
-    let rows = [(0, 0, 900_000), (10, 2, 100_000), (10, 1, 150_000)];
-    let rows = [&rows[..], &[(0, 0, 0), (20, 4, 200_000), (0, 0, 1_000_000)]].concat();
+    let rows = [(0, 0, 5), (10, 2, 100_000), (10, 1, 150_000)];
+    let worse = [(0, 0, 180_000), (20, 4, 200_000), (0, 0, 1_000_000)];
+    let rows = [rows, worse].concat();
     let mut desk = Desk::empty();
     let table = Table::by_obligors().grades(rows);
     assert_eq!(desk.load_table(Place::First, &table), Ok(()));
@@ -347,6 +348,59 @@ fn r4_empty_grades_are_written_and_load_back() {
                 .grades(place)
                 .map(|grade| (grade.obligors, grade.defaults));
             assert_eq!(held.collect::<Vec<_>>(), rows);
+        }
+    }
+}
+
+/// K's announced rates in every order: those that fall somewhere are refused, and the desk is as it was.
+#[test]
+fn r5_swapped_rates() {
+    let (low, middle, high) = (100_000, 150_000, 200_000);
+    let rows = |rates: [u32; 3]| [(10, 2, rates[0]), (10, 1, rates[1]), (20, 4, rates[2])];
+    let falling = Err(Refusal::FallingRate);
+    for (rates, expected) in [
+        ([low, middle, high], Ok(())),
+        ([low, high, high], Ok(())),
+        ([low; 3], Ok(())),
+        ([middle, low, high], falling),
+        ([low, high, middle], falling),
+        ([high, middle, low], falling),
+        ([high, low, middle], falling),
+        ([middle, high, low], falling),
+        ([high, low, high], falling),
+    ] {
+        let table = Table::by_obligors().grades(rows(rates));
+        let mut desk = desk_of(E);
+        let before = desk.clone();
+        assert_eq!(desk.load_table(Place::Second, &table), expected);
+        assert_eq!(desk == before, expected.is_err(), "{rates:?}");
+    }
+}
+
+/// Of a book's raters only the one that is loaded may not have falling rates.
+#[test]
+fn r5_rates_of_another_rater() {
+    let mut desk = Desk::empty();
+    for place in [Place::First, Place::Second] {
+        assert_eq!(desk.load(place, &book_k(), 1), Ok(()));
+    }
+    let book = desk.write().expect("it is loaded");
+    for (falls, start) in [(1, 8), (2, 48)] {
+        let mut book = book.clone();
+        let (better, worse) = (start + 12, start + 24); // of K's rates the first two
+        for byte in 0..4 {
+            book.swap(better + byte, worse + byte);
+        }
+        for rater in [1, 2] {
+            let mut desk = Desk::empty();
+            let answer = desk.load(Place::First, &book, rater);
+            let expected = if rater == falls {
+                Err(Refusal::FallingRate)
+            } else {
+                Ok(())
+            };
+            assert_eq!(answer, expected, "{rater} of {falls}");
+            assert_eq!(desk.is_loaded(Place::First), rater != falls);
         }
     }
 }

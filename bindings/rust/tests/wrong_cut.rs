@@ -222,9 +222,12 @@ fn books_that_are_not_cut_wrong() {
     refused(&with(first_empty, 26, &[0; 8]), Refusal::NoObligors);
     refused(&with(whole(), 22, &[255; 4]), Refusal::Announced);
     refused(&with(whole(), 14, &[255; 4]), Refusal::Obligors);
+    refused(&with(whole(), 34, &[0; 4]), Refusal::FallingRate);
     // rows of a rater that is not loaded
-    let later = with(whole(), 42, &[0; 8]);
-    assert_eq!((loaded(&later), find(&later)), (0, None));
+    for (byte, bytes) in [(42, &[0; 8][..]), (78, &[0; 4])] {
+        let later = with(whole(), byte, bytes);
+        assert_eq!((loaded(&later), find(&later)), (0, None));
+    }
 }
 
 #[test]
@@ -278,7 +281,7 @@ fn damaged(random: &mut Random) -> Vec<u8> {
 #[test]
 fn damaged_books() {
     let mut random = Random(5);
-    let mut seen = [0; 34];
+    let mut seen = [0; 35];
     for _ in 0..100_000 {
         let book = damaged(&mut random);
         find(&book);
@@ -287,6 +290,7 @@ fn damaged_books() {
     for number in [0, 2, 3, 6, 7, 31, 32, 33] {
         assert!(seen[number] > 500, "{number}: {}", seen[number]);
     }
+    assert!(seen[34] > 100, "34, which is no cut: {}", seen[34]);
     for length in 0..500 {
         let book: Vec<u8> = (0..length).map(|_| random.byte()).collect();
         find(&book);

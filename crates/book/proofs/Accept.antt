@@ -1,20 +1,21 @@
--- A reading without a fault: the place holds the rater's table, which is sound, and nothing behind it.
-use Prim.Native.Nat.{ℕ, _+_}
-use mathlib.Core.Path.{_≡_}
+-- A reading without a fault: the place holds the rater's table, which is sound, and nothing behind it. Of a book that is laid out, every
+-- sound table is read so.
+use Prim.Native.Nat.{ℕ, _+_, _≤_}
+use mathlib.Core.Path.{_≡_, refl, sym, _∙_}
 use mathlib.Core.List.{List}
 use native.Mathlib.Omega.{arith}
 use lib.ListN.{length}
 use Rattle.table.specs.Table.{Sound}
 use Rattle.table.specs.Place.{placeOf}
 use Rattle.table.proofs.Placed.{table-placed, placed-grades, placed-loaded, placed-past, sound-placed}
-use Rattle.book.specs.Layout.{startOf, gradesAt, kindAt, raterChecks}
+use Rattle.book.specs.Layout.{raters, startOf, gradesAt, kindAt, raterChecks, layoutFault}
 use Rattle.book.specs.Rows.{tableOfRater, tableFault}
 use Rattle.book.specs.Reading.{readFault}
 use Rattle.book.specs.Claims.{Accepted}
-use Rattle.book.proofs.Checks.{held, held-first}
+use Rattle.book.proofs.Checks.{found, none, pass, held, held-first, go}
 use Rattle.book.proofs.Rows.{length-rows}
 use Rattle.book.proofs.Stands.{stands, Stands}
-use Rattle.book.proofs.Faultless.{faultless-sound}
+use Rattle.book.proofs.Faultless.{faultless-sound, sound-faultless}
 
 -- what no fault of any check means
 pub record Checked (b : List ℕ) (j : ℕ) : Type 0 where
@@ -48,3 +49,13 @@ accepted b j e =
       loaded = placed-loaded t;
       unused = λ i h. placed-past t i (omega (arith, placed-grades t));
     }
+
+-- Of a book that is laid out, each rater's rows and total decide.
+pub rows-decide : (b : List ℕ) (j : ℕ) → layoutFault b ≡ 0 → 1 ≤ j → j ≤ raters b → tableFault (tableOfRater b j) ≡ readFault b j
+unfolding layoutFault readFault raterChecks
+rows-decide b j e some few =
+    let laid = held-first _ _ e in
+    go (laid .0) (go (sym (found (pass some (pass few none)))) (go (laid .1) refl))
+
+pub sound-accepted : (b : List ℕ) (j : ℕ) → layoutFault b ≡ 0 → 1 ≤ j → j ≤ raters b → Sound (tableOfRater b j) → readFault b j ≡ 0
+sound-accepted b j e some few sound = sym (rows-decide b j e some few) ∙ sound-faultless (tableOfRater b j) sound

@@ -1,6 +1,6 @@
 pub mod Checks
-pub mod Numbers
 pub mod Rows
+pub mod Numbers
 pub mod Columns
 pub mod Stands
 pub mod Faultless
@@ -13,3 +13,4 @@ pub mod RoundTrip
 pub mod Again
 pub mod WrongCut
 pub mod Emptiness
+pub mod Fall

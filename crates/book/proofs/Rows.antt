@@ -13,7 +13,7 @@ use Rattle.table.specs.Table.{Table, Grade, occupied, obligorsIn}
 use Rattle.table.specs.Counts.{largest, capped}
 use Rattle.table.proofs.Occupied.{someone}
 use Rattle.book.specs.Checks.{fault}
-use Rattle.book.specs.Rows.{gradeIn, gradesIn, rowChecks, rowsFault, totalChecks, tableFault}
+use Rattle.book.specs.Rows.{gradeIn, gradesIn, rowChecks, laterChecks, laterFault, rowsFault, totalChecks, tableFault}
 use Rattle.book.specs.Private.{cappedGrade}
 use Rattle.book.proofs.Checks.{first-none, first-some}
 
@@ -64,10 +64,16 @@ leb-same : (a b c d : ℕ) (t : Bool) → leb a b ≡ t → (a ≤ b → c ≤ d
 leb-same a b c d true e f g = e ∙ sym (le-leb c d (f (leb-true a b e)))
 leb-same a b c d false e f g = e ∙ sym (lt-leb c d (g (leb-false a b e)))
 
-pub capped-fault : (g : Grade) → g .defaults ≤ largest → fault (rowChecks (cappedGrade g)) ≡ fault (rowChecks g)
-unfolding fault rowChecks
-capped-fault g h =
+pub capped-fault : (before : ℕ) (g : Grade) → g .defaults ≤ largest → fault (laterChecks before (cappedGrade g)) ≡ fault (laterChecks before g)
+unfolding fault rowChecks laterChecks
+capped-fault before g h =
     rw (leb-same (g .defaults) (capped (g .obligors)) (g .defaults) (g .obligors) _ refl (λ l. omega arith) (λ l. omega arith))
+
+-- No rate is below 0: the first row is as one behind a row that announced 0.
+pub rows-later : (t : Table) → rowsFault t ≡ laterFault 0 t
+unfolding fault rowChecks laterChecks laterFault rowsFault
+rows-later [] = refl
+rows-later (g ∷ t) = rw (le-leb 0 (g .announced) (omega arith))
 
 -- A table of no obligors has empty grades only: the code knows the total, and counts no occupied grades.
 

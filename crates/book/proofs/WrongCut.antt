@@ -1,21 +1,22 @@
 -- Where a book is cut wrong the checks answer its number, and where they answer 31, 32 or 33 it is cut wrong so.
 use Prim.Native.Nat.{ℕ, zero, suc, _+_, _-_, _≤_, _<_}
 use mathlib.Core.Path.{_≡_, sym, _∙_}
-use mathlib.Core.Bool.{Bool}
+use mathlib.Core.Bool.{Bool, not}
 use mathlib.Core.List.{List, [], _∷_}
 use native.Mathlib.Nat.{add-zero}
 use native.Mathlib.Decide.{decLe}
 use native.Mathlib.Omega.{arith}
-use lib.Dec.{T, ltb, ltb→lt}
+use borrow.Author.Tests.{le-leb}
+use lib.Dec.{T}
 use lib.ListN.{length}
 use Rattle.table.specs.Table.{Table}
 use Rattle.book.specs.Checks.{equal, fault, firstFault}
 use Rattle.book.specs.Layout.{raters, endOf, leftoverFault, headChecks, raterChecks, tableChecks, tablesFaultFrom, tablesFault}
-use Rattle.book.specs.Rows.{rowChecks, totalChecks, tableFault, tableOfRater}
+use Rattle.book.specs.Rows.{rowChecks, laterChecks, totalChecks, tableFault, tableOfRater}
 use Rattle.book.specs.Reading.{readFault}
 use Rattle.book.specs.WrongCut.{endAfter, Laid, FirstLaid, WrongCut, elsewhere, header, rows, leftover}
 use Rattle.book.proofs.Checks.{Finds, found, none, pass, same, over, other, finds, held, stop, go, first-none, first-some}
-use Rattle.book.proofs.Numbers.{allPass, fault-passes, first-passes, rows-pass, past}
+use Rattle.book.proofs.Numbers.{allPass, isCut, fault-passes, first-passes, rows-pass, past, earlier}
 
 -- What is cut wrong is told.
 
@@ -108,34 +109,29 @@ module _ (b : List ℕ) where
       f
       (λ t g. meant m (suc k) n (omega arith) (one-more k p t) (t .inside) h (rw (t .headed .start) g))
 
--- Every other check has a number below 31.
+-- Every other check has another number than these three.
 
-abbrev pub isLow : ℕ → Bool
-isLow n = ltb n 31
+abbrev pub isUncut : ℕ → Bool
+isUncut n = not (isCut n)
 
--- Of two faults, the one that is not low: the second where the first is low, the first where the second is.
-past-low : (n m r : ℕ) → T (isLow n) → 31 ≤ r → firstFault n m ≡ r → (n ≡ 0) × (m ≡ r)
-past-low n m r h k e = past isLow n m r h (λ l. omega (arith, ltb→lt r 31 l)) e
+pub cut-number : (n : ℕ) → 31 ≤ n → n ≤ 33 → T (isUncut n) → ⊥
+cut-number n h k t = rw (le-leb 31 n h, le-leb n 33 k) at t
 
-before-low : (n m r : ℕ) → T (isLow m) → 31 ≤ r → firstFault n m ≡ r → n ≡ r
-unfolding firstFault
-before-low zero m r h k e = absurd (omega (arith, ltb→lt m 31 h))
-before-low (suc n) m r h k e = e
-
-low-table : (t : Table) → T (isLow (tableFault t))
-unfolding tableFault rowChecks totalChecks allPass
-low-table t = first-passes isLow _ _ (rows-pass isLow tt (λ g. tt) t) (fault-passes isLow (totalChecks t) tt)
+uncut-table : (t : Table) → T (isUncut (tableFault t))
+unfolding tableFault rowChecks laterChecks totalChecks allPass
+uncut-table t = first-passes isUncut _ _ (rows-pass isUncut tt (λ p g. tt) t) (fault-passes isUncut (totalChecks t) tt)
 
 pub cut-told : (b : List ℕ) (j n : ℕ) → fault (headChecks b) ≡ 0 → 1 ≤ j → j ≤ raters b → WrongCut b n → readFault b j ≡ n
 unfolding readFault raterChecks
 cut-told b j n h some few c =
     sym (go h (go (sym (found (pass some (pass few none)))) (stop _ (told b c) (λ z. omega (arith, high b c)))))
 
-pub cut-meant : (b : List ℕ) (j n : ℕ) → 31 ≤ n → readFault b j ≡ n → WrongCut b n
+pub cut-meant : (b : List ℕ) (j n : ℕ) → 31 ≤ n → n ≤ 33 → readFault b j ≡ n → WrongCut b n
 unfolding readFault headChecks raterChecks allPass endAfter
-cut-meant b j n h e =
-    let head = past-low _ _ n (fault-passes isLow (headChecks b) tt) h e in
-    let rater = past-low _ _ n (fault-passes isLow (raterChecks b j) tt) h (head .1) in
-    let tables = before-low _ _ n (low-table (tableOfRater b j)) h (rater .1) in
+cut-meant b j n h l e =
+    let k = cut-number n h l in
+    let head = past isUncut _ _ n (fault-passes isUncut (headChecks b) tt) k e in
+    let rater = past isUncut _ _ n (fault-passes isUncut (raterChecks b j) tt) k (head .1) in
+    let tables = earlier isUncut _ _ n (uncut-table (tableOfRater b j)) k (rater .1) in
     let room = held (headChecks b) (head .0) in
     meant b (raters b) 0 n (omega arith) (λ i l. absurd (omega arith)) (omega arith) h tables

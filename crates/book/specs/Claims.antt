@@ -13,6 +13,7 @@ use Rattle.book.specs.Checks.{fault}
 use Rattle.book.specs.Layout.{raters, startOf, gradesAt, kindAt, headChecks, layoutFault}
 use Rattle.book.specs.WrongCut.{WrongCut}
 use Rattle.book.specs.Rows.{tableOfRater, tablesIn, rowsFault}
+use Rattle.book.specs.Fall.{FallsAfter}
 use Rattle.book.specs.Reading.{readFault}
 use Rattle.book.specs.Encode.{encode}
 use Rattle.book.specs.Writing.{tablesOf, writeAnswer, bufferAfter}
@@ -45,6 +46,17 @@ AllEmptyIsTold =
     (b : List ℕ) (j : ℕ) → layoutFault b ≡ 0 → 1 ≤ j → j ≤ raters b
     → rowsFault (tableOfRater b j) ≡ 0 → occupied (tableOfRater b j) ≡ [] → readFault b j ≡ 9
 
+-- R-5: of a book that is laid out, a table whose announced rates fall is refused with 34,
+abbrev pub FallsAreTold : Type 0
+FallsAreTold =
+    (b : List ℕ) (j k : ℕ) → layoutFault b ≡ 0 → 1 ≤ j → j ≤ raters b → FallsAfter (tableOfRater b j) k → readFault b j ≡ 34
+
+-- and 34 is given for nothing else: it stands behind the whole layout.
+abbrev pub FallsAreMeant : Type 0
+FallsAreMeant =
+    (b : List ℕ) (j : ℕ) → readFault b j ≡ 34
+    → (layoutFault b ≡ 0) × (1 ≤ j) × (j ≤ raters b) × ((k : ℕ) × FallsAfter (tableOfRater b j) k)
+
 -- "Kind of first column (0 obligors, 1 survivors)": so many obligors, or so many survivors, has grade i.
 abbrev pub FirstColumnIsOfItsKind : Type 0
 FirstColumnIsOfItsKind =
@@ -72,9 +84,9 @@ ReadBookWritesBack =
 abbrev pub WrongCutsAreTold : Type 0
 WrongCutsAreTold = (b : List ℕ) (j n : ℕ) → fault (headChecks b) ≡ 0 → 1 ≤ j → j ≤ raters b → WrongCut b n → readFault b j ≡ n
 
--- The other way: a number from 31 on is given for such a cut, and for nothing else.
+-- The other way: a number from 31 to 33 is given for such a cut, and for nothing else.
 abbrev pub WrongCutsAreMeant : Type 0
-WrongCutsAreMeant = (b : List ℕ) (j n : ℕ) → 31 ≤ n → readFault b j ≡ n → WrongCut b n
+WrongCutsAreMeant = (b : List ℕ) (j n : ℕ) → 31 ≤ n → n ≤ 33 → readFault b j ≡ n → WrongCut b n
 
 -- All of them: what the function `claims` of this crate promises.
 pub record Claims : Type 0 where
@@ -82,6 +94,8 @@ pub record Claims : Type 0 where
   pub sound-tables-are-read : SoundTablesAreRead
   pub nine-means-all-empty : NineMeansAllEmpty
   pub all-empty-is-told : AllEmptyIsTold
+  pub falls-are-told : FallsAreTold
+  pub falls-are-meant : FallsAreMeant
   pub first-column-is-of-its-kind : FirstColumnIsOfItsKind
   pub written-book-reads-back : WrittenBookReadsBack
   pub read-book-writes-back : ReadBookWritesBack

@@ -3,6 +3,7 @@ pub mod Checks
 pub mod Layout
 pub mod WrongCut
 pub mod Rows
+pub mod Fall
 pub mod Reading
 pub mod Encode
 pub mod Writing

@@ -1,7 +1,7 @@
 -- The rows of a table as they stand in a book, and the checks on them.
 use Prim.Native.Nat.{ℕ, zero, suc, _+_}
 use mathlib.Core.Bool.{cond}
-use mathlib.Core.List.{List, [], _∷_}
+use mathlib.Core.List.{List, [], _∷_, _++_}
 use lib.Dec.{eqb}
 use lib.ListN.{length}
 use Rattle.table.specs.Table.{Table, Grade, occupied, obligorsIn}
@@ -44,10 +44,19 @@ tablesIn b j (suc k) = tableOfRater b j ∷ tablesIn b (suc j) k
 unfoldable pub rowChecks : Grade → List Check
 rowChecks g = at-most (g .defaults) (g .obligors) 8 ∷ at-most (g .announced) 1_000_000 10 ∷ []
 
--- row by row
+-- One row behind another, which announced the rate `before`. R-5: "A rate below that of the row before is 34, tested in each row after 10."
+unfoldable pub laterChecks : ℕ → Grade → List Check
+laterChecks before g = rowChecks g ++ at-most before (g .announced) 34 ∷ []
+
+-- row by row, behind one that announced the rate `before`
+unfoldable pub laterFault : ℕ → Table → ℕ
+laterFault before [] = 0
+laterFault before (g ∷ t) = firstFault (fault (laterChecks before g)) (laterFault (g .announced) t)
+
+-- all rows: the first has no row before it
 unfoldable pub rowsFault : Table → ℕ
 rowsFault [] = 0
-rowsFault (g ∷ t) = firstFault (fault (rowChecks g)) (rowsFault t)
+rowsFault (g ∷ t) = firstFault (fault (rowChecks g)) (laterFault (g .announced) t)
 
 -- The checks after the last row. R-4: "Number 9 moves from the row checks to just before 11 and means that all grades are empty."
 unfoldable pub totalChecks : Table → List Check

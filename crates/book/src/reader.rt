@@ -7,7 +7,7 @@ ghost use Rattle.table.specs.Place.{fresh, placeOf};
 ghost use Rattle.table.specs.Words.{wordsOf};
 ghost use Rattle.book.specs.Checks.{fault};
 ghost use Rattle.book.specs.Layout.{gradesAt, endOf};
-ghost use Rattle.book.specs.Rows.{obligorsBy, gradeIn, tableFrom, tableOfRater, rowChecks, tableFault};
+ghost use Rattle.book.specs.Rows.{obligorsBy, gradeIn, tableFrom, tableOfRater, laterChecks, tableFault};
 ghost use Rattle.book.specs.Reading.{readFault};
 ghost use Rattle.book.specs.Private.{gradeOf, cappedGrade};
 use crate::Row;
@@ -19,6 +19,7 @@ use crate::layout::TABLE_HEAD;
 use crate::layout::head_fault;
 use crate::layout::start_of;
 use crate::layout::tables_fault;
+use refusals::FALLING_RATE;
 use refusals::HIGH_RATE;
 use refusals::MANY_DEFAULTS;
 use refusals::MANY_OBLIGORS;
@@ -60,15 +61,18 @@ fn row_at(b: &[u8], kind: usize, at: usize) -> Row
     }
 }
 
-// 0, or the number of the row's first fault.
-fn row_fault(r: Row) -> u32
-    ensures { λ n. ⌜ n ≡ fault (rowChecks (gradeOf r)) ⌝ }
+// 0, or the number of the first fault of a row behind one that announced the rate `before`.
+fn row_fault(r: Row, before: u32) -> u32
+    ensures { λ n. ⌜ n ≡ fault (laterChecks before (gradeOf r)) ⌝ }
 {
     if r.obligors.0 < r.defaults {
         return MANY_DEFAULTS;
     }
     if PPM < r.announced {
         return HIGH_RATE;
+    }
+    if r.announced < before {
+        return FALLING_RATE;
     }
     0
 }
@@ -81,15 +85,18 @@ pub fn rows_fault(b: &[u8], start: usize) -> u32
     let grades = byte_at(b, start);
     let kind = byte_at(b, start + 1);
     let mut total: u64 = 0;
+    // The first row has none before it, and no rate is below 0.
+    let mut before: u32 = 0;
     let mut at = start + TABLE_HEAD;
     let mut i: usize = 0;
     while i < grades {
         let row = row_at(b, kind, at);
-        let n = row_fault(row);
+        let n = row_fault(row, before);
         if n != 0 {
             return n;
         }
         total += row.obligors.0 as u64;
+        before = row.announced;
         at += ROW;
         i += 1;
     }

@@ -11,7 +11,7 @@ use Rattle.table.specs.Place.{tableOf}
 use Rattle.table.specs.declared.Place.{Place}
 use Rattle.book.specs.Checks.{Check, at-most, fault, firstFault}
 use Rattle.book.specs.Layout.{headChecks, raterChecks, tableChecks, tablesFaultFrom, firstStart, raters}
-use Rattle.book.specs.Rows.{rowChecks, rowsFault, totalChecks, tableFault, tableOfRater}
+use Rattle.book.specs.Rows.{rowChecks, laterChecks, rowsFault, totalChecks, tableFault, tableOfRater}
 use Rattle.book.specs.Reading.{readFault}
 use Rattle.book.specs.Writing.{writeFault}
 use Rattle.book.proofs.Numbers.{allPass, fault-passes, first-passes, rows-pass, tables-pass}
@@ -61,8 +61,8 @@ module _ (b : List ℕ) (j : ℕ) where
   known-tables = tables-pass (isKnown readNumbers) b (λ i at. tt) tt
 
   known-rows : (t : Table) → Known readNumbers (rowsFault t)
-  unfolding rowChecks among allPass
-  known-rows = rows-pass (isKnown readNumbers) tt (λ g. tt)
+  unfolding rowChecks laterChecks among allPass
+  known-rows = rows-pass (isKnown readNumbers) tt (λ p g. tt)
 
   known-read : Known readNumbers (readFault b j)
   unfolding readFault headChecks raterChecks tableFault totalChecks among allPass

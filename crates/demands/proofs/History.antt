@@ -1,13 +1,14 @@
--- The desk that calls leave holds the tables that were loaded, and they are sound.
-use Prim.Native.Nat.{ℕ}
+-- The desk that calls leave holds the tables that were loaded, and they are sound: their announced rates never fall.
+use Prim.Native.Nat.{ℕ, _≤_, _<_}
 use mathlib.Core.Path.{_≡_, refl}
 use mathlib.Core.List.{List, [], _∷_}
 use borrow.Author.Tests.{ne-eqb}
 use lib.Dec.{eqb}
+use lib.ListN.{length, getD}
 use Rattle.table.specs.Table.{Table, Sound}
-use Rattle.table.specs.Place.{placeOf}
+use Rattle.table.specs.Place.{blank, placeOf, SoundPlace, empty, holds}
+use Rattle.table.proofs.Order.{in-order}
 use Rattle.table.proofs.Test.{by-test}
-use Rattle.table.specs.Place.{SoundPlace, empty, holds}
 use Rattle.book.specs.Checks.{fault, firstFault}
 use Rattle.book.specs.Rows.{tableOfRater}
 use Rattle.book.specs.Reading.{readFault}
@@ -82,6 +83,10 @@ calls-sound i h (c ∷ calls) s = calls-sound i (heldAfter i h c) calls (held-so
 
 pub tables-sound : (calls : List Call) (i : ℕ) (t : Table) → held i calls ≡ table t → Sound t
 tables-sound calls i t e = rw e at (calls-sound i nothing calls tt)
+
+pub rates-never-fall : (calls : List Call) (i : ℕ) (t : Table) → held i calls ≡ table t
+    → (better worse : ℕ) → better ≤ worse → worse < length t → getD t better blank .announced ≤ getD t worse blank .announced
+rates-never-fall calls i t e = in-order t (tables-sound calls i t e .in-order)
 
 -- The desk is sound.
 

@@ -11,7 +11,7 @@ use Rattle.table.proofs.Placed.{table-placed}
 use Rattle.book.specs.Bytes.{twoAt, fourAt}
 use Rattle.book.specs.Checks.{fault, firstFault}
 use Rattle.book.specs.Layout.{headChecks, raterChecks, tableChecks, tablesFaultFrom}
-use Rattle.book.specs.Rows.{gradeIn, gradesIn, rowChecks, rowsFault, totalChecks, tableFault}
+use Rattle.book.specs.Rows.{gradeIn, gradesIn, rowChecks, laterChecks, laterFault, rowsFault, totalChecks, tableFault}
 use Rattle.book.specs.Reading.{readFault}
 use Rattle.pooling.specs.Pool.{front, pool}
 use Rattle.pooling.specs.Band.{bandFrom}
@@ -31,15 +31,16 @@ use Rattle.calls.specs.Calls.{load, changeFault, compareFault, pairChecks}
 use Rattle.desk.specs.Calls.{change, numberOf}
 use Rattle.demands.specs.History.{deskFrom, deskAfter, heldFrom, held, table}
 use Rattle.demands.specs.Worked as worked
-use Rattle.demands.specs.Worked.{row, bookK, tableK, empty, bookOf, five, fine, coarse, worstApart, bestApart, price, Between}
+use Rattle.demands.specs.Worked.{row, bookK, tableK, empty, bookOf, swappedK, five, fine, coarse, worstApart, bestApart, price, Between}
 
--- Books, as they stand in the bytes: K, and those of R-4's case line.
+-- Books, as they stand in the bytes: K, those of R-4's case line, and K with two rates swapped.
 read :
     (held 1 (change 1 (load bookK 1) ∷ []) ≡ table tableK)
     × (held 1 (change 1 (load (bookOf 10 2) 1) ∷ []) ≡ table (empty ∷ row 10 2 ∷ []))
     × (numberOf (deskAfter []) (change 1 (load (bookOf 0 0) 1)) ≡ 9)
-unfolding deskFrom heldFrom changeFault readFault headChecks raterChecks tableChecks tablesFaultFrom gradeIn gradesIn rowChecks rowsFault totalChecks tableFault fault firstFault twoAt fourAt obligorsIn occupied
-read = (refl, refl, refl)
+    × (numberOf (deskAfter []) (change 1 (load swappedK 1)) ≡ 34)
+unfolding deskFrom heldFrom changeFault readFault headChecks raterChecks tableChecks tablesFaultFrom gradeIn gradesIn rowChecks laterChecks laterFault rowsFault totalChecks tableFault fault firstFault twoAt fourAt obligorsIn occupied
+read = (refl, refl, refl, refl)
 
 -- Verdicts.
 
@@ -75,7 +76,7 @@ dearer t₁ t₂ p u v h = record {
 }
 
 pub Worked : worked.Worked
-unfolding pool front bandFrom gradesOf numbersOf occupied repeating pooledNumbers ratesIn defaultsIn survivorsIn obligorsIn concordant discordant tied measuresOf turnedAway cost best cheapestOf all compareFault pairChecks fault firstFault placeOf gradesFrom
+unfolding pool front bandFrom gradesOf numbersOf occupied repeating pooledNumbers ratesIn defaultsIn survivorsIn obligorsIn concordant discordant tied measuresOf turnedAway cost best cheapestOf all compareFault pairChecks rowChecks laterChecks laterFault rowsFault totalChecks tableFault fault firstFault placeOf gradesFrom
 Worked = record {
   a-read = read .0;
   a-pooled = refl;
@@ -125,4 +126,15 @@ Worked = record {
   r4-scale = refl;
   r4-cheapest = refl;
   r4-pietra = refl;
+  r5-swapped = read .3;
+  r5-equal = refl;
+  r5-second = refl;
+  r5-last = refl;
+  r5-empty = refl;
+  r5-behind-empty = refl;
+  r5-same-row = refl;
+  r5-ten = refl;
+  r5-later-row = refl;
+  r5-nine = refl;
+  r5-eleven = refl;
 }

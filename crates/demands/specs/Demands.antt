@@ -1,17 +1,19 @@
 -- The customer's three demands, each sentence by a name, over all calls and all lists of calls from a fresh desk.
 -- The contract of `demands` in src/lib.rt is all of them, so that the crate is refused where one is not proved.
-use Prim.Native.Nat.{ℕ, _-_, _≤_}
+use Prim.Native.Nat.{ℕ, _-_, _≤_, _<_}
 use mathlib.Core.Path.{_≡_}
 use mathlib.Core.Bool.{false}
 use mathlib.Core.Logic.{_⊎_}
 use mathlib.Core.List.{List, [], _∷_, _++_}
 use lib.ListN.{length, drop, take, getD}
 use Rattle.table.specs.Table.{Table, Every, Sound, occupied, defaultsIn, survivorsIn}
+use Rattle.table.specs.Place.{blank}
 use Rattle.book.specs.Bytes.{Byte}
 use Rattle.book.specs.Checks.{fault}
 use Rattle.book.specs.Layout.{raters, startOf, kindAt, headChecks, layoutFault}
 use Rattle.book.specs.WrongCut.{WrongCut}
 use Rattle.book.specs.Rows.{tableOfRater, tablesIn}
+use Rattle.book.specs.Fall.{FallsAfter}
 use Rattle.book.specs.Encode.{bookSize}
 use Rattle.book.specs.Claims as book
 use Rattle.pooling.specs.Numbers.{ratesAtOccupied}
@@ -43,6 +45,12 @@ PlacesHoldWhatWasLoaded =
 abbrev pub EveryHeldTableIsSound : Type 0
 EveryHeldTableIsSound = (calls : List Call) (i : ℕ) (t : Table) → held i calls ≡ table t → Sound t
 
+-- R-5: the announced rates of a held table never fall: of any two grades, empty or not, the worse one announces no lower rate.
+abbrev pub AnnouncedRatesNeverFall : Type 0
+AnnouncedRatesNeverFall =
+    (calls : List Call) (i : ℕ) (t : Table) → held i calls ≡ table t
+    → (better worse : ℕ) → better ≤ worse → worse < length t → getD t better blank .announced ≤ getD t worse blank .announced
+
 -- Demand 1.
 
 -- n is one of some numbers.
@@ -60,9 +68,9 @@ LoadTellsWrongCuts =
     (d : Desk) (i j n : ℕ) (b : List ℕ) → 1 ≤ i → i ≤ 2 → placeAt d i .loaded ≡ false
     → fault (headChecks b) ≡ 0 → 1 ≤ j → j ≤ raters b → WrongCut b n → numberOf d (change i (load b j)) ≡ n
 
--- and of any load, a number from 31 on is given for such a cut alone.
+-- and of any load, a number from 31 to 33 is given for such a cut alone.
 abbrev pub LoadMeansWrongCuts : Type 0
-LoadMeansWrongCuts = (d : Desk) (i j n : ℕ) (b : List ℕ) → 31 ≤ n → numberOf d (change i (load b j)) ≡ n → WrongCut b n
+LoadMeansWrongCuts = (d : Desk) (i j n : ℕ) (b : List ℕ) → 31 ≤ n → n ≤ 33 → numberOf d (change i (load b j)) ≡ n → WrongCut b n
 
 -- R-2: "5 is never given again."
 abbrev pub FiveIsNeverGiven : Type 0
@@ -78,6 +86,18 @@ LoadTakesSoundTables =
 abbrev pub LoadMeansAllEmpty : Type 0
 LoadMeansAllEmpty =
     (d : Desk) (i j : ℕ) (b : List ℕ) → numberOf d (change i (load b j)) ≡ 9 → occupied (tableOfRater b j) ≡ []
+
+-- R-5, of load into an empty place: of a book that is laid out, a table whose announced rates fall is refused with 34;
+abbrev pub LoadTellsFalls : Type 0
+LoadTellsFalls =
+    (d : Desk) (i j k : ℕ) (b : List ℕ) → 1 ≤ i → i ≤ 2 → placeAt d i .loaded ≡ false
+    → layoutFault b ≡ 0 → 1 ≤ j → j ≤ raters b → FallsAfter (tableOfRater b j) k → numberOf d (change i (load b j)) ≡ 34
+
+-- and of any load, 34 is given for such a table of such a book alone.
+abbrev pub LoadMeansFalls : Type 0
+LoadMeansFalls =
+    (d : Desk) (i j : ℕ) (b : List ℕ) → numberOf d (change i (load b j)) ≡ 34
+    → (layoutFault b ≡ 0) × (1 ≤ j) × (j ≤ raters b) × ((k : ℕ) × FallsAfter (tableOfRater b j) k)
 
 -- "22: place empty": an accepted question is of a table, and of one as document 01 says.
 abbrev pub QuestionsAreOfTables : Type 0
@@ -176,12 +196,15 @@ pub record Demands : Type 0 where
   pub every-desk-is-sound : EveryDeskIsSound
   pub places-hold-what-was-loaded : PlacesHoldWhatWasLoaded
   pub every-held-table-is-sound : EveryHeldTableIsSound
+  pub announced-rates-never-fall : AnnouncedRatesNeverFall
   pub every-call-is-answered : EveryCallIsAnswered
   pub load-tells-wrong-cuts : LoadTellsWrongCuts
   pub load-means-wrong-cuts : LoadMeansWrongCuts
   pub five-is-never-given : FiveIsNeverGiven
   pub load-takes-sound-tables : LoadTakesSoundTables
   pub load-means-all-empty : LoadMeansAllEmpty
+  pub load-tells-falls : LoadTellsFalls
+  pub load-means-falls : LoadMeansFalls
   pub questions-are-of-tables : QuestionsAreOfTables
   pub refusals-change-nothing : RefusalsChangeNothing
   pub only-what-is-written-changes : OnlyWhatIsWrittenChanges

@@ -36,7 +36,7 @@ abbrev pub fillNumbers : Filling → List ℕ
 fillNumbers pool = 22 ∷ 13 ∷ []
 
 abbrev pub changeNumbers : Change → List ℕ
-changeNumbers (load book rater) = 21 ∷ 2 ∷ 3 ∷ 4 ∷ 31 ∷ 32 ∷ 6 ∷ 7 ∷ 33 ∷ 8 ∷ 9 ∷ 10 ∷ 11 ∷ []
+changeNumbers (load book rater) = 21 ∷ 2 ∷ 3 ∷ 4 ∷ 31 ∷ 32 ∷ 6 ∷ 7 ∷ 33 ∷ 8 ∷ 10 ∷ 34 ∷ 9 ∷ 11 ∷ []
 changeNumbers clear = 22 ∷ []
 
 abbrev pub numbers : Call → List ℕ

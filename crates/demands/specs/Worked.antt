@@ -5,6 +5,8 @@ use mathlib.Core.List.{List, [], _∷_}
 use lib.IntN.{pos, negsuc}
 use Rattle.table.specs.Table.{Table, Grade}
 use Rattle.table.specs.Place.{placeOf}
+use Rattle.book.specs.Checks.{fault}
+use Rattle.book.specs.Rows.{laterChecks, tableFault}
 use Rattle.pooling.specs.Fraction.{ratio}
 use Rattle.pooling.specs.Pool.{pooledScale}
 use Rattle.pooling.specs.Numbers.{pooledInto}
@@ -20,7 +22,7 @@ use Rattle.calls.specs.Calls.{load, Compared}
 use Rattle.desk.specs.Calls.{change, numberOf}
 use Rattle.demands.specs.History.{deskAfter, held, table}
 
--- "Rows are (n, d)": what a grade announces plays no part, save in book K.
+-- "Rows are (n, d)": what a grade announces plays no part, save in book K and in R-5's tables.
 abbrev pub row : ℕ → ℕ → Grade
 row n d = record { obligors = n; defaults = d; announced = 0 }
 
@@ -51,6 +53,22 @@ bookOf n d =
     ∷ 0 ∷ 0 ∷ 0 ∷ 0 ∷ 0 ∷ 0 ∷ 0 ∷ 0 ∷ 0 ∷ 0 ∷ 0 ∷ 0
     ∷ n ∷ 0 ∷ 0 ∷ 0 ∷ d ∷ 0 ∷ 0 ∷ 0 ∷ 0 ∷ 0 ∷ 0 ∷ 0
     ∷ []
+
+-- R-5: book K, where the rates of the first two grades are swapped
+abbrev pub swappedK : List ℕ
+swappedK =
+    1 ∷ 0 ∷ 46 ∷ 0 ∷ 6 ∷ 0 ∷ 3 ∷ 0 ∷ 0 ∷ 0
+    ∷ 10 ∷ 0 ∷ 0 ∷ 0 ∷ 2 ∷ 0 ∷ 0 ∷ 0 ∷ 240 ∷ 73 ∷ 2 ∷ 0
+    ∷ 10 ∷ 0 ∷ 0 ∷ 0 ∷ 1 ∷ 0 ∷ 0 ∷ 0 ∷ 160 ∷ 134 ∷ 1 ∷ 0
+    ∷ 20 ∷ 0 ∷ 0 ∷ 0 ∷ 4 ∷ 0 ∷ 0 ∷ 0 ∷ 64 ∷ 13 ∷ 3 ∷ 0
+    ∷ []
+
+-- a grade of n obligors that announces the rate p, and one with a default of nobody, which announces 4
+abbrev pub announcing : ℕ → ℕ → Grade
+announcing n p = record { obligors = n; defaults = 0; announced = p }
+
+abbrev pub nobodys : Grade
+nobodys = record { obligors = 0; defaults = 1; announced = 4 }
 
 -- the table of document 002
 abbrev pub five : Table
@@ -141,3 +159,17 @@ pub record Worked : Type 0 where
   -- "Cutoffs still number all grades": the worst two are turned away, one of them empty, and Pietra's is behind the empty one too.
   pub r4-cheapest : cheapestOf (row 10 0 ∷ row 10 10 ∷ empty ∷ []) 1 1 ≡ record { cutoff = 2; cost = 0 }
   pub r4-pietra : measuresOf (row 10 0 ∷ row 10 10 ∷ empty ∷ []) .cutoff ≡ 2
+  -- R-5: K with two rates swapped; "equal neighbours pass, a fall does not": in the second row, in the last one, at an empty grade, behind one
+  pub r5-swapped : numberOf (deskAfter []) (change 1 (load swappedK 1)) ≡ 34
+  pub r5-equal : tableFault (announcing 9 5 ∷ announcing 9 5 ∷ announcing 0 5 ∷ announcing 9 5 ∷ []) ≡ 0
+  pub r5-second : tableFault (announcing 9 5 ∷ announcing 9 4 ∷ announcing 9 6 ∷ []) ≡ 34
+  pub r5-last : tableFault (announcing 9 5 ∷ announcing 9 7 ∷ announcing 9 6 ∷ []) ≡ 34
+  pub r5-empty : tableFault (announcing 9 5 ∷ announcing 0 4 ∷ announcing 9 5 ∷ []) ≡ 34
+  pub r5-behind-empty : tableFault (announcing 9 5 ∷ announcing 0 7 ∷ announcing 9 6 ∷ []) ≡ 34
+  -- "Tested in each row after 10": 8 in the same row is the answer, and 10 would be, if a rate that has it could be below one that has not; 8 in a
+  -- later row is not, nor are 9 and 11, which come behind all rows
+  pub r5-same-row : tableFault (announcing 9 5 ∷ nobodys ∷ []) ≡ 8
+  pub r5-ten : fault (laterChecks 1_000_002 (announcing 9 1_000_001)) ≡ 10
+  pub r5-later-row : tableFault (announcing 9 5 ∷ announcing 9 4 ∷ nobodys ∷ []) ≡ 34
+  pub r5-nine : tableFault (announcing 0 5 ∷ announcing 0 4 ∷ []) ≡ 34
+  pub r5-eleven : tableFault (announcing 1_000_000 5 ∷ announcing 1 4 ∷ []) ≡ 34

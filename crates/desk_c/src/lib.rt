@@ -33,7 +33,7 @@ use desk::is_place;
 use refusals::NO_PLACE;
 use table::PLACE;
 
-const VERSION: u32 = 5;
+const VERSION: u32 = 6;
 
 // The version of this library.
 #[no_mangle]
@@ -45,7 +45,7 @@ pub extern "C" fn desk_version() -> u32
 
 // The same under a name with the number in it: a header of another version asks for another name, which the linker then misses.
 #[no_mangle]
-pub extern "C" fn desk_library_is_version_5() -> u32
+pub extern "C" fn desk_library_is_version_6() -> u32
     ensures { λ r. ⌜ r ≡ version ⌝ }
 {
     desk_version()

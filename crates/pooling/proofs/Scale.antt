@@ -1,9 +1,9 @@
 -- The pooled scale of a table is a table without empty grades.
 use Prim.Native.Nat.{suc, _≤_}
-use mathlib.Core.List.{List, [], _∷_}
+use mathlib.Core.List.{List, [], _∷_, map}
 use native.Mathlib.Omega.{arith}
 use lib.ListN.{length, length-map}
-use Rattle.table.specs.Table.{Table, Every, Occupied, Counted, Rated, Sound, occupied}
+use Rattle.table.specs.Table.{Table, Every, Occupied, Counted, Rated, InOrder, Sound, occupied}
 use Rattle.table.proofs.Every.{every, map-every}
 use Rattle.table.proofs.Occupied.{all-occupied, every-occupied, none-empty, occupied-few}
 use Rattle.pooling.specs.Pool.{Block, single, join, front, pool, blocks, asGrade, pooledScale}
@@ -34,6 +34,13 @@ scale-occupied t = map-every Occupied asGrade (blocks t) (blocks-occupied (occup
 pub scale-counted : (t : Table) → Every Counted t → Every Counted (pooledScale t)
 scale-counted t h = map-every Counted asGrade (blocks t) (blocks-counted (occupied t) (every-occupied Counted t h))
 
+-- no block announces a rate
+level : (bs : List Block) → InOrder (map asGrade bs)
+unfolding InOrder
+level [] = tt
+level (b ∷ []) = tt
+level (b ∷ c ∷ bs) = (omega arith, level (c ∷ bs))
+
 pub pooled-sound : (t : Table) → Sound t → Sound (pooledScale t)
 pooled-sound t sound =
     let some : 1 ≤ length (pooledScale t) = rw length-map (pool-some (occupied t) (sound .some-occupied)) in
@@ -43,5 +50,6 @@ pooled-sound t sound =
       some-occupied = rw (none-empty (pooledScale t) (scale-occupied t)) some;
       counted = scale-counted t (sound .counted);
       rated = map-every Rated asGrade (blocks t) (every (λ b. omega arith) (blocks t));
+      in-order = level (blocks t);
       total = rw (pooled-totals t (sound .counted) .0) (sound .total);
     }

@@ -65,3 +65,8 @@ pub const TABLE_END: u32 = 32;
 
 // Bytes after the last table.
 pub const LEFTOVER: u32 = 33;
+
+// Where announced rates are out of step (R-5).
+
+// A rate below that of the row before.
+pub const FALLING_RATE: u32 = 34;

@@ -3,6 +3,7 @@ pub mod Test
 pub mod Pastes
 pub mod Every
 pub mod Occupied
+pub mod Order
 pub mod Sums
 pub mod Suffix
 pub mod Placed

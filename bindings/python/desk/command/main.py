@@ -39,7 +39,7 @@ examples:
 
 A CSV table has a header and a line for each grade, best grade first. The header names the columns, in any order: either obligors
 (everybody in the grade, the defaulted included) or survivors (the defaulted left out), then defaults and announced (the announced
-default rate in ppm).
+default rate in ppm, which never falls from a line to the next).
 
 exit status: 0 answered; 1 refused (with its number, see `desk refusals`); 2 wrong usage, or a file, disk or build that does
 not work.

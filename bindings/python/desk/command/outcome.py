@@ -31,7 +31,7 @@ class Complaint(NamedTuple):
 
 class Question(NamedTuple):
     """Something that looks wrong and is not refused. It never changes an answer."""
-    about: str  # 'first_column', 'unit', 'direction', 'order', 'total' or 'reading'
+    about: str  # 'first_column', 'unit', 'direction', 'total' or 'reading'
     text: str
 
 

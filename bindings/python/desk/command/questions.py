@@ -5,7 +5,7 @@ from math import log10
 from typing import Iterator
 
 from ..answers import Measures
-from ..table import Table
+from ..table import Table, ends_in_total
 from .outcome import Question
 
 PPM = 1_000_000
@@ -32,7 +32,7 @@ def of_pair(first: Table, second: Table) -> Iterator[Question]:
 
 
 def of_table(table: Table) -> Iterator[Question]:
-    """Whether the announced rates are in another unit or out of order, and whether the last row is a total."""
+    """Whether the announced rates are in another unit, and whether the last row is a total."""
     announced = sum(grade.obligors * grade.announced for grade in table.grades)
     if table.defaults and announced:
         power = round(log10(table.defaults * PPM / announced))
@@ -42,13 +42,7 @@ def of_table(table: Table) -> Iterator[Question]:
         elif abs(power) >= 2:
             yield Question('unit', f'the announced rates of {table.name} are about {"1/" if power > 0 else ""}{10 ** abs(power)} '
                                    f'{"of" if power > 0 else "times"} the observed ones: are they in ppm?')
-    falls = [grade for grade in range(1, len(table.grades)) if table.grades[grade].announced < table.grades[grade - 1].announced]
-    if falls:
-        grades = ', '.join(f'{grade} to {grade + 1}' for grade in falls[:3]) + (', ..' if len(falls) > 3 else '')
-        yield Question('order', f'the announced rates of {table.name} fall from grade {grades}; a worse grade is taken to have the '
-                                'higher rate')
-    *others, last = table.grades
-    if sum(grade.obligors > 0 for grade in others) > 1 and (2 * last.obligors, 2 * last.defaults) == (table.obligors, table.defaults):
+    if ends_in_total(table.rows):
         yield Question('total', f'the last grade of {table.name} has as many obligors and defaults as all others together: is it a total?')
 
 

@@ -1,6 +1,7 @@
 -- The claims: `claims` has nothing to do but to show each of them.
-use Rattle.book.proofs.Accept.{accepted}
-use Rattle.book.proofs.Emptiness.{sound-accepted, empty-told, nine-means}
+use Rattle.book.proofs.Accept.{accepted, sound-accepted}
+use Rattle.book.proofs.Emptiness.{empty-told, nine-means}
+use Rattle.book.proofs.Fall.{fall-told, fall-meant}
 use Rattle.book.proofs.Columns.{first-column}
 use Rattle.book.proofs.RoundTrip.{round-trip}
 use Rattle.book.proofs.Again.{written-again}
@@ -14,6 +15,8 @@ returns c = record {
   sound-tables-are-read = sound-accepted;
   nine-means-all-empty = nine-means;
   all-empty-is-told = empty-told;
+  falls-are-told = fall-told;
+  falls-are-meant = fall-meant;
   first-column-is-of-its-kind = first-column;
   written-book-reads-back = round-trip;
   read-book-writes-back = written-again;

@@ -6,9 +6,9 @@ use Rattle.cutoff.proofs.Cost.{cheapest-is, cheapest-unique}
 use Rattle.cutoff.proofs.Pooled.{pooled-costs-same}
 use Rattle.measures.proofs.Claimed as measures
 use Rattle.desk.proofs.Asked.{asked-sound}
-use Rattle.demands.proofs.History.{places-hold, tables-sound, desk-sound}
+use Rattle.demands.proofs.History.{places-hold, tables-sound, rates-never-fall, desk-sound}
 use Rattle.demands.proofs.Faults.{answered, never-five}
-use Rattle.demands.proofs.Loads.{load-tells, load-means, load-takes, load-means-empty}
+use Rattle.demands.proofs.Loads.{load-tells, load-means, load-takes, load-means-empty, load-tells-fall, load-means-fall}
 use Rattle.demands.proofs.Kept.{refused-kept, written-only, others-kept}
 use Rattle.demands.proofs.Accepted.{regression-written, repeats-written, measured-mixed, loads-back, writes-back}
 use Rattle.demands.proofs.Verdicts.{compare-right}
@@ -20,12 +20,15 @@ returns c = record {
   every-desk-is-sound = desk-sound;
   places-hold-what-was-loaded = places-hold;
   every-held-table-is-sound = tables-sound;
+  announced-rates-never-fall = rates-never-fall;
   every-call-is-answered = answered;
   load-tells-wrong-cuts = load-tells;
   load-means-wrong-cuts = load-means;
   five-is-never-given = never-five;
   load-takes-sound-tables = load-takes;
   load-means-all-empty = load-means-empty;
+  load-tells-falls = load-tells-fall;
+  load-means-falls = load-means-fall;
   questions-are-of-tables = asked-sound;
   refusals-change-nothing = refused-kept;
   only-what-is-written-changes = written-only;
