@@ -7,7 +7,7 @@ use lib.Dec.{eqb}
 use lib.ListN.{length, getD}
 use Rattle.table.specs.Table.{Table, Sound}
 use Rattle.table.specs.Place.{blank, placeOf, SoundPlace, empty, holds}
-use Rattle.table.proofs.Order.{in-order}
+use Rattle.table.proofs.Order.{never-fall}
 use Rattle.table.proofs.Test.{by-test}
 use Rattle.book.specs.Checks.{fault, firstFault}
 use Rattle.book.specs.Rows.{tableOfRater}
@@ -86,7 +86,7 @@ tables-sound calls i t e = rw e at (calls-sound i nothing calls tt)
 
 pub rates-never-fall : (calls : List Call) (i : ℕ) (t : Table) → held i calls ≡ table t
     → (better worse : ℕ) → better ≤ worse → worse < length t → getD t better blank .announced ≤ getD t worse blank .announced
-rates-never-fall calls i t e = in-order t (tables-sound calls i t e .in-order)
+rates-never-fall calls i t e = never-fall t (tables-sound calls i t e .in-order)
 
 -- The desk is sound.
 

@@ -8,7 +8,7 @@ use lib.Dec.{lit<, lit≤}
 use Rattle.table.specs.Table.{Table, occupied, survivorsIn, defaultsIn, obligorsIn}
 use Rattle.table.specs.Place.{gradesFrom, placeOf}
 use Rattle.table.proofs.Placed.{table-placed}
-use Rattle.book.specs.Bytes.{twoAt, fourAt}
+use Rattle.book.specs.Bytes.{twoAt, fourAt, twoBytes, fourBytes}
 use Rattle.book.specs.Checks.{fault, firstFault}
 use Rattle.book.specs.Layout.{headChecks, raterChecks, tableChecks, tablesFaultFrom}
 use Rattle.book.specs.Rows.{gradeIn, gradesIn, rowChecks, laterChecks, laterFault, rowsFault, totalChecks, tableFault}
@@ -39,7 +39,7 @@ read :
     × (held 1 (change 1 (load (bookOf 10 2) 1) ∷ []) ≡ table (empty ∷ row 10 2 ∷ []))
     × (numberOf (deskAfter []) (change 1 (load (bookOf 0 0) 1)) ≡ 9)
     × (numberOf (deskAfter []) (change 1 (load swappedK 1)) ≡ 34)
-unfolding deskFrom heldFrom changeFault readFault headChecks raterChecks tableChecks tablesFaultFrom gradeIn gradesIn rowChecks laterChecks laterFault rowsFault totalChecks tableFault fault firstFault twoAt fourAt obligorsIn occupied
+unfolding deskFrom heldFrom changeFault readFault headChecks raterChecks tableChecks tablesFaultFrom gradeIn gradesIn rowChecks laterChecks laterFault rowsFault totalChecks tableFault fault firstFault twoAt fourAt twoBytes fourBytes obligorsIn occupied
 read = (refl, refl, refl, refl)
 
 -- Verdicts.

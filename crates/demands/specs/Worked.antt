@@ -3,8 +3,10 @@ use Prim.Native.Nat.{ℕ}
 use mathlib.Core.Path.{_≡_}
 use mathlib.Core.List.{List, [], _∷_}
 use lib.IntN.{pos, negsuc}
+use lib.Seq.{sets}
 use Rattle.table.specs.Table.{Table, Grade}
 use Rattle.table.specs.Place.{placeOf}
+use Rattle.book.specs.Bytes.{fourBytes}
 use Rattle.book.specs.Checks.{fault}
 use Rattle.book.specs.Rows.{laterChecks, tableFault}
 use Rattle.pooling.specs.Fraction.{ratio}
@@ -54,14 +56,9 @@ bookOf n d =
     ∷ n ∷ 0 ∷ 0 ∷ 0 ∷ d ∷ 0 ∷ 0 ∷ 0 ∷ 0 ∷ 0 ∷ 0 ∷ 0
     ∷ []
 
--- R-5: book K, where the rates of the first two grades are swapped
+-- R-5: book K, where the rates of the first two grades, which stand at bytes 18 and 30, are swapped
 abbrev pub swappedK : List ℕ
-swappedK =
-    1 ∷ 0 ∷ 46 ∷ 0 ∷ 6 ∷ 0 ∷ 3 ∷ 0 ∷ 0 ∷ 0
-    ∷ 10 ∷ 0 ∷ 0 ∷ 0 ∷ 2 ∷ 0 ∷ 0 ∷ 0 ∷ 240 ∷ 73 ∷ 2 ∷ 0
-    ∷ 10 ∷ 0 ∷ 0 ∷ 0 ∷ 1 ∷ 0 ∷ 0 ∷ 0 ∷ 160 ∷ 134 ∷ 1 ∷ 0
-    ∷ 20 ∷ 0 ∷ 0 ∷ 0 ∷ 4 ∷ 0 ∷ 0 ∷ 0 ∷ 64 ∷ 13 ∷ 3 ∷ 0
-    ∷ []
+swappedK = sets (sets bookK 18 (fourBytes 150_000)) 30 (fourBytes 100_000)
 
 -- a grade of n obligors that announces the rate p, and one with a default of nobody, which announces 4
 abbrev pub announcing : ℕ → ℕ → Grade

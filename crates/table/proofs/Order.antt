@@ -6,14 +6,14 @@ use lib.ListN.{length, getD}
 use Rattle.table.specs.Table.{Table, InOrder}
 use Rattle.table.specs.Place.{blank}
 
-pub in-order : (t : Table) → InOrder t → (better worse : ℕ) → better ≤ worse → worse < length t
+pub never-fall : (t : Table) → InOrder t → (better worse : ℕ) → better ≤ worse → worse < length t
     → getD t better blank .announced ≤ getD t worse blank .announced
 unfolding InOrder
-in-order [] o b w h l = absurd (omega arith)
-in-order (r ∷ []) o zero zero h l = omega arith
-in-order (r ∷ []) o (suc b) zero h l = absurd (omega arith)
-in-order (r ∷ []) o b (suc w) h l = absurd (omega arith)
-in-order (r ∷ s ∷ t) o zero zero h l = omega arith
-in-order (r ∷ s ∷ t) o zero (suc w) h l = omega (arith, o .0, in-order (s ∷ t) (o .1) 0 w (omega arith) (omega arith))
-in-order (r ∷ s ∷ t) o (suc b) zero h l = absurd (omega arith)
-in-order (r ∷ s ∷ t) o (suc b) (suc w) h l = in-order (s ∷ t) (o .1) b w (omega arith) (omega arith)
+never-fall [] o b w h l = absurd (omega arith)
+never-fall (r ∷ []) o zero zero h l = omega arith
+never-fall (r ∷ []) o (suc b) zero h l = absurd (omega arith)
+never-fall (r ∷ []) o b (suc w) h l = absurd (omega arith)
+never-fall (r ∷ s ∷ t) o zero zero h l = omega arith
+never-fall (r ∷ s ∷ t) o zero (suc w) h l = omega (arith, o .0, never-fall (s ∷ t) (o .1) 0 w (omega arith) (omega arith))
+never-fall (r ∷ s ∷ t) o (suc b) zero h l = absurd (omega arith)
+never-fall (r ∷ s ∷ t) o (suc b) (suc w) h l = never-fall (s ∷ t) (o .1) b w (omega arith) (omega arith)
