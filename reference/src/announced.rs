@@ -62,6 +62,12 @@ pub(crate) fn from_none_to_all(random: &mut Random, count: usize) -> Vec<u64> {
     rates
 }
 
+/// The rows, counted from 0, whose rate is below that of the row before.
+pub fn falls(rates: &[u64]) -> Vec<usize> {
+    let falls = |&row: &usize| rates[row] < rates[row - 1];
+    (1..rates.len()).filter(falls).collect()
+}
+
 /// Puts a fall into rates that are in step: of this row, by so much, and nowhere else.
 pub type Fall = fn(&mut [u64], usize, u64);
 
@@ -119,10 +125,12 @@ pub(crate) fn whole_size(random: &mut Random) -> u64 {
 mod tests {
     use super::*;
 
-    /// The rows whose rate is below that of the row before.
-    fn falls(rates: &[u64]) -> Vec<usize> {
-        let falls = |&row: &usize| rates[row] < rates[row - 1];
-        (1..rates.len()).filter(falls).collect()
+    #[test]
+    fn falls_are_found_in_every_row_but_the_first() {
+        assert_eq!(falls(&[]), []);
+        assert_eq!(falls(&[7]), []);
+        assert_eq!(falls(&[0, 5, 5, 6]), []);
+        assert_eq!(falls(&[6, 5, 5, 4, 9, 8]), [1, 3, 5]);
     }
 
     #[test]

@@ -1,6 +1,7 @@
 //! How often one run exercises announced rates in step and out of step: which cases of their scene
 //! are loaded, and where in a table a rate falls first.
 
+use crate::announced::falls;
 use crate::announced_scene::{every_rates, Rates};
 use crate::answer::Answer;
 use crate::book;
@@ -43,13 +44,13 @@ impl AnnouncedTally {
 
     fn add_rows(&mut self, book: &[u8], rater: u32, refusal: Option<Refusal>) {
         let rates = book::announced(book, rater);
-        if let Some(row) = first_fall(&rates) {
+        if let Some(&row) = falls(&rates).first() {
             let (_, obligors) = book::obligors(book, rater);
             let grades = grades_at(&obligors, row);
-            let falls = self.falls.entry((row_name(row, rates.len()), grades));
-            let falls = falls.or_default();
-            falls.by_size[usize::from(rates[row - 1] - rates[row] > 1)] += 1;
-            *falls.answers.entry(refusal).or_default() += 1;
+            let alike = self.falls.entry((row_name(row, rates.len()), grades));
+            let alike = alike.or_default();
+            alike.by_size[usize::from(rates[row - 1] - rates[row] > 1)] += 1;
+            *alike.answers.entry(refusal).or_default() += 1;
         }
         if refusal.is_none() {
             *self.loaded.entry(rises(&rates)).or_default() += 1;
@@ -77,11 +78,6 @@ impl AnnouncedTally {
         }
         text
     }
-}
-
-/// The index of the first row whose rate is below that of the row before.
-fn first_fall(rates: &[u64]) -> Option<usize> {
-    (1..rates.len()).find(|&row| rates[row] < rates[row - 1])
 }
 
 fn row_name(row: usize, count: usize) -> &'static str {

@@ -1,6 +1,7 @@
 //! The scene about R-5 of document 02 holds other programs to it: its tables are what they say, and
 //! a run has all of them. Tables of the other scenes never have a fall by accident.
 
+use reference::announced::falls;
 use reference::announced_scene::{every_rates, Rates};
 use reference::book;
 use reference::compare::plan;
@@ -12,8 +13,11 @@ use reference::random::Random;
 use reference::script::Call;
 use reference::tally::Tally;
 use std::collections::{BTreeMap, BTreeSet};
+use tallied::{cells, loads_of};
 
 use Rates::*;
+
+mod tallied;
 
 const MILLION: u64 = 1_000_000;
 
@@ -27,12 +31,6 @@ fn number_of(rates: Rates) -> u32 {
         BytesFollow => 33,
         _ => 34,
     }
-}
-
-/// The rows whose rate is below that of the row before.
-fn falls(rates: &[u64]) -> Vec<usize> {
-    let falls = |&row: &usize| rates[row] < rates[row - 1];
-    (1..rates.len()).filter(falls).collect()
 }
 
 /// Announced rates and obligors of the table to be loaded.
@@ -286,28 +284,14 @@ fn random_tables_have_rates_of_every_sort() {
     assert!(times.iter().all(|&times| times >= 20), "{times:?}");
 }
 
-/// The cells behind this start of a line.
-fn cells<'a>(tally: &'a str, start: &str) -> Vec<&'a str> {
-    let line = tally.lines().find_map(|line| line.strip_prefix(start));
-    line.map_or(vec![], |line| {
-        line.trim_end_matches(" |").split(" | ").collect()
-    })
-}
-
 /// As many calls as the gate has for a seed.
 #[test]
 fn a_run_has_every_case() {
     for seed in [1, 2, 3] {
         let tally = Tally::of_run(seed, 15_000).markdown();
         for case in every_rates() {
-            let cells = cells(&tally, &format!("| {case} | "));
-            let answer = match number_of(case) {
-                0 => "ok".to_string(),
-                number => number.to_string(),
-            };
-            let times = cells[0].parse().unwrap_or(0);
+            let times = loads_of(&tally, case, number_of(case));
             assert!(times >= 5, "seed {seed}: {case}, {times}");
-            assert_eq!(cells[1], format!("{answer}: {times}"), "seed {seed}");
         }
     }
 }

@@ -14,6 +14,7 @@ use Rattle.book.specs.Reading.{readFault}
 use Rattle.book.proofs.Checks.{Finds, found, none, pass, over, finds, stop, go, first-some}
 use Rattle.book.proofs.Rows.{rows-later}
 use Rattle.book.proofs.Numbers.{allPass, isOther, fault-passes, earlier, past-layout}
+use Rattle.book.proofs.Faultless.{row-faultless}
 use Rattle.book.proofs.Accept.{rows-decide}
 
 -- What falls is told, also behind a row that announced p, where the first row does not fall from it.
@@ -22,10 +23,10 @@ unfolding laterFault rowChecks laterChecks InOrder
 told p k [] h f = absurd (omega (arith, f .inside))
 told p k (g ∷ []) h f = absurd (omega (arith, f .inside))
 told p zero (g ∷ r ∷ t) h f =
-    go (sym (found (pass (f .counted .0) (pass (f .rated .0) (pass h none)))))
+    go (row-faultless p g (f .counted .0) (f .rated .0) h)
     (stop _ (found (pass (f .counted .1 .0) (pass (f .rated .1 .0) (over (f .below))))) (λ z. omega arith))
 told p (suc k) (g ∷ r ∷ t) h f =
-    go (sym (found (pass (f .counted .0) (pass (f .rated .0) (pass h none)))))
+    go (row-faultless p g (f .counted .0) (f .rated .0) h)
     (told (g .announced) k (r ∷ t) (f .in-order .0)
     record {
       inside = omega (arith, f .inside);

@@ -1,9 +1,10 @@
 -- A table of 1 to 40 grades has no fault exactly if it is sound.
-use Prim.Native.Nat.{_≤_}
+use Prim.Native.Nat.{ℕ, _≤_}
 use mathlib.Core.Path.{_≡_, refl, sym}
 use mathlib.Core.List.{[], _∷_}
 use lib.ListN.{length}
 use Rattle.table.specs.Table.{Table, Grade, Every, Counted, Rated, InOrder, Sound}
+use Rattle.book.specs.Checks.{fault}
 use Rattle.book.specs.Rows.{rowChecks, laterChecks, laterFault, rowsFault, totalChecks, tableFault}
 use Rattle.book.proofs.Checks.{found, none, pass, held, held-first, go}
 
@@ -47,11 +48,14 @@ faultless-sound t some few e =
       total = h .1 .0;
     }
 
+pub row-faultless : (before : ℕ) (g : Grade) → Counted g → Rated g → before ≤ g .announced → fault (laterChecks before g) ≡ 0
+unfolding rowChecks laterChecks
+row-faultless before g c r o = sym (found (pass c (pass r (pass o none))))
+
 later-faultless : (g : Grade) (t : Table) → Every Counted t → Every Rated t → InOrder (g ∷ t) → 0 ≡ laterFault (g .announced) t
-unfolding laterFault rowChecks laterChecks InOrder
+unfolding laterFault InOrder
 later-faultless g [] c r o = refl
-later-faultless g (h ∷ t) c r o =
-    go (sym (found (pass (c .0) (pass (r .0) (pass (o .0) none))))) (later-faultless h t (c .1) (r .1) (o .1))
+later-faultless g (h ∷ t) c r o = go (row-faultless (g .announced) h (c .0) (r .0) (o .0)) (later-faultless h t (c .1) (r .1) (o .1))
 
 rows-faultless : (t : Table) → Every Counted t → Every Rated t → InOrder t → 0 ≡ rowsFault t
 unfolding rowsFault rowChecks
