@@ -1,4 +1,5 @@
-/* Compares credit rating scales: which of two over the same obligors is better, whatever prices are put on the mistakes.
+/* Compares credit rating scales: which of two over the same obligors is better, whatever prices are put on the mistakes, and which
+ * of two over different books, by shares of their own defaults and survivors.
  * C11 or C++11, or later, on x86-64. Link with libdesk_c.a, which `rt staticlib desk_c` writes; where installed, with -ldesk.
  *
  * TERMS. A rating scale sorts its obligors into grades, best first. Of a grade's n obligors d defaulted and s = n - d survived;
@@ -8,7 +9,9 @@
  * grades add nothing to any count, are numbered as grades all the same, have an announced rate as any other, and have no default
  * rate of their own: who divides by n has to look for 0. A desk has two places, 1 and 2, each empty or holding one rater's table.
  * - Cutoff g, 0 to the number of grades, turns away the g worst grades, empty ones among them. At prices u and v it costs u for
- *   each default that it misses (in a grade that it does not turn away) and v for each survivor that it turns away.
+ *   each default that it misses (in a grade that it does not turn away) and v for each survivor that it turns away. On shares
+ *   it costs u(D - y)/D + vx/S, where it turns away y defaults and x survivors: u is the price of missing all defaults of the
+ *   table, v that of turning away all its survivors, so that books of different sizes compare.
  * - Blocks are runs of neighbouring grades, the empty ones left out, rate = block defaults / block obligors, so cut that the rates
  *   are the monotone regression with weights n and strictly rise from block to block: neighbours whose rates fall or are equal
  *   are joined until none are left.
@@ -50,14 +53,16 @@
  * version does not link: the linker reports desk_library_is_version_N as undefined, N being the number below. Then take
  * header and library of one version and compile again. Who loads the library at run time by hand, and so does not link with
  * it, defines DESK_LOADED_BY_HAND before this header and compares desk_version() with DESK_VERSION. */
-#define DESK_VERSION 6
+#define DESK_VERSION 7
 
-#define DESK_GRADES 40            /* the most grades of a table */
-#define DESK_MAX_OBLIGORS 1000000 /* the most obligors of a table */
-#define DESK_MAX_PRICE 1000000    /* the highest price */
-#define DESK_POOL_NUMBERS 120     /* room for whatever desk_pool writes */
-#define DESK_BOOK_BYTES 976       /* room for whatever desk_write writes */
-#define DESK_TABLE_BYTES 490      /* the most bytes of a book of one table */
+#define DESK_GRADES 40                       /* the most grades of a table */
+#define DESK_MAX_OBLIGORS 1000000            /* the most obligors of a table */
+#define DESK_MAX_OBLIGORS_ON_SHARES 100000   /* the most of a table that desk_compare_shares takes */
+#define DESK_MAX_PRICE 1000000               /* the highest price that desk_cheapest takes and desk_compare writes */
+#define DESK_MAX_PRICE_ON_SHARES 2500000000U /* the highest that desk_compare_shares writes: above INT32_MAX */
+#define DESK_POOL_NUMBERS 120                /* room for whatever desk_pool writes */
+#define DESK_BOOK_BYTES 976                  /* room for whatever desk_write writes */
+#define DESK_TABLE_BYTES 490                 /* the most bytes of a book of one table */
 
 /* The refusals: constant, number, meaning. */
 #define DESK_REFUSALS(X) \
@@ -81,7 +86,8 @@
     X(DESK_REFUSED_TABLE_START, 31, "a table starts elsewhere than where the last one ended") \
     X(DESK_REFUSED_TABLE_END, 32, "a table runs past the end, in header or rows") \
     X(DESK_REFUSED_LEFTOVER, 33, "bytes after the last table") \
-    X(DESK_REFUSED_FALLING_RATE, 34, "announced rate below that of the row before")
+    X(DESK_REFUSED_FALLING_RATE, 34, "announced rate below that of the row before") \
+    X(DESK_REFUSED_LARGE_TABLE, 35, "N above 100,000 (compare on shares; N: obligors of the table)")
 #define DESK_CONSTANT(constant, number, meaning) constant = number,
 enum { DESK_REFUSALS(DESK_CONSTANT) };
 
@@ -164,6 +170,12 @@ uint32_t desk_cheapest(const Desk *desk, uint32_t place, uint32_t u, uint32_t v,
 /* Which scale is at least as good: its cheapest cutoff costs no more than the other's, whatever the prices.
  * Writes: the answer. Keeps: the desk. Refuses: 22 (place 1, place 2), 23 (either), 24 (either), 25. */
 uint32_t desk_compare(const Desk *desk, DeskVerdict *answer) DESK_CHECKED;
+
+/* The same on shares, for scales over different books: D and S may differ between the places. Where they do not, the kind is that of
+ * desk_compare. The prices of the answer are on shares and may be above DESK_MAX_PRICE: they are not for desk_cheapest, whose
+ * prices are of single obligors.
+ * Writes: the answer. Keeps: the desk. Refuses: 22 (place 1, place 2), 23 (either), 24 (either), 35 (either). */
+uint32_t desk_compare_shares(const Desk *desk, DeskVerdict *answer) DESK_CHECKED;
 
 /* D, S, Gini, the areas under the ROC and CAP curves, and Pietra.
  * Writes: the answer. Keeps: the desk. Refuses: 1, 22, 23, 24. */

@@ -1,6 +1,8 @@
 //! What a call answered, in one form for all versions.
+use crate::cases::{Call, Case};
 use crate::{plain, proved};
 use reference::cutoff::{cheapest_cost, Price, Verdict};
+use reference::shares::{cheapest_cost_on_shares, MAX_PRICE_ON_SHARES};
 use reference::spread::lawful;
 use reference::table::Table;
 
@@ -14,13 +16,14 @@ pub enum Answer {
 }
 
 impl Answer {
-    /// Whether this answer says the same as the other of calls on these tables: price pairs and floats by what document 01 asks of them.
-    pub fn agrees(&self, other: &Answer, tables: [&Table; 2]) -> bool {
+    /// Whether this answer says the same as the other to a case's call: price pairs and floats by what documents 01 and 02 ask of them.
+    pub fn agrees(&self, other: &Answer, case: &Case) -> bool {
+        let table = &case.tables[0];
         match (self, other) {
             (Answer::Verdict(one), Answer::Verdict(two)) => {
-                std::mem::discriminant(one) == std::mem::discriminant(two) && shown(one, tables) && shown(two, tables)
+                std::mem::discriminant(one) == std::mem::discriminant(two) && shown(one, case) && shown(two, case)
             }
-            (Answer::Spread { .. }, Answer::Spread { .. }) => self.is_lawful(tables[0]) && other.is_lawful(tables[0]),
+            (Answer::Spread { .. }, Answer::Spread { .. }) => self.is_lawful(table) && other.is_lawful(table),
             _ => self == other,
         }
     }
@@ -31,9 +34,14 @@ impl Answer {
 }
 
 /// Whether the price pairs of a verdict are in range and show what it says.
-fn shown(verdict: &Verdict, [first, second]: [&Table; 2]) -> bool {
-    let dearer = |one: &Table, other: &Table, price: &Price| {
-        price.missed_default <= 1_000_000 && price.lost_survivor <= 1_000_000 && cheapest_cost(one, price) > cheapest_cost(other, price)
+fn shown(verdict: &Verdict, case: &Case) -> bool {
+    let [first, second] = &case.tables;
+    let up_to = |most: u64, price: &Price| price.missed_default <= most && price.lost_survivor <= most;
+    let dearer = |one: &Table, other: &Table, price: &Price| match case.call {
+        Call::CompareShares => {
+            up_to(MAX_PRICE_ON_SHARES, price) && cheapest_cost_on_shares(one, price) > cheapest_cost_on_shares(other, price)
+        }
+        _ => up_to(1_000_000, price) && cheapest_cost(one, price) > cheapest_cost(other, price),
     };
     match verdict {
         Verdict::Equal => true,

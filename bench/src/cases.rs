@@ -1,4 +1,5 @@
 //! What is measured: each call on tables of several shapes, all of 40 grades. The same inputs in every run.
+use reference::lenders::times;
 use reference::random::Random;
 use reference::table::Table;
 
@@ -13,6 +14,7 @@ pub enum Call {
         v: u32,
     },
     Compare,
+    CompareShares,
     Measures,
     Brier,
     Spread,
@@ -31,6 +33,10 @@ pub struct Case {
 
 const GRADES: u64 = 40;
 
+fn rows(of: &Table) -> Vec<(u64, u64)> {
+    of.grades.iter().map(|grade| (grade.obligors, grade.defaults)).collect()
+}
+
 /// A table of rows (n, d), whose announced rates rise evenly.
 fn table(rows: &[(u64, u64)]) -> Table {
     let mut table = Table::of_rows(rows);
@@ -40,21 +46,32 @@ fn table(rows: &[(u64, u64)]) -> Table {
     table
 }
 
-/// 40 grades of 25,000 obligors, N the largest: defaults rise by a quarter and one from grade to grade, through every band.
-fn rising_rows() -> Vec<(u64, u64)> {
-    let next = |d: &u64| Some(d + d / 4 + 1);
+/// 40 grades of equally many obligors: defaults rise by a part of them and one from grade to grade.
+fn rising_by(part: u64, obligors: u64) -> Table {
+    let next = |d: &u64| Some(d + d / part + 1);
     let defaults = std::iter::successors(Some(1), next);
-    defaults.take(GRADES as usize).map(|d| (25_000, d)).collect()
+    let rows: Vec<_> = defaults.take(GRADES as usize).map(|d| (obligors, d)).collect();
+    table(&rows)
 }
 
-/// Every grade is a block.
+/// Every grade is a block. N is the largest, and the rates go through every band.
 fn rising() -> Table {
-    table(&rising_rows())
+    rising_by(4, 25_000)
 }
 
-/// A scale that is upside down. All grades are one block; each joins as soon as it is reached.
-fn falling() -> Table {
-    let mut rows = rising_rows();
+/// Every grade is a block. N is half the largest that is compared on shares.
+fn rising_half() -> Table {
+    rising_by(7, 1_250)
+}
+
+/// The same scale of a book of twice the size.
+fn twice(of: &Table) -> Table {
+    times(of, (2, 2))
+}
+
+/// A scale that is upside down. Of a rising one all grades are one block; each joins as soon as it is reached.
+fn upside_down(of: &Table) -> Table {
+    let mut rows = rows(of);
     rows.reverse();
     table(&rows)
 }
@@ -66,16 +83,20 @@ fn collapsing() -> Table {
     table(&rows)
 }
 
-/// Rates rise with noise: a few blocks of several grades.
-fn random(seed: u64) -> Table {
+/// Rates rise with noise: a few blocks of several grades. A grade has at most so many obligors.
+fn random(seed: u64, most_obligors: u64) -> Table {
     let mut random = Random::of_seed(seed);
     let mut grade = |index: u64| {
-        let obligors = random.between(100, 24_000);
+        let obligors = random.between(100, most_obligors);
         let most = obligors * (index + 10) / (GRADES + 10);
         let defaults = random.between(0, most);
         (obligors, defaults)
     };
     table(&(0..GRADES).map(&mut grade).collect::<Vec<_>>())
+}
+
+fn mixed() -> Table {
+    random(7, 24_000)
 }
 
 /// Every second grade of the rising table is empty, the best one among them.
@@ -89,31 +110,65 @@ fn half_empty() -> Table {
 
 /// The same rows in another order: D and S stay.
 fn shuffled(of: &Table, seed: u64) -> Table {
-    let mut rows: Vec<_> = of.grades.iter().map(|grade| (grade.obligors, grade.defaults)).collect();
+    let mut rows = rows(of);
     Random::of_seed(seed).shuffle(&mut rows);
     table(&rows)
 }
 
-/// The rising table with one default more in a grade and one less in the next: the two are less well told apart, D and S stay.
-fn blurred(grade: usize) -> Table {
-    let mut rows = rising_rows();
-    rows[grade].1 += 1;
-    rows[grade + 1].1 -= 1;
-    table(&rows)
+/// A rising table with one default more in a grade and one less in the next: the two are less well told apart, D and S stay.
+fn blurred(of: &Table, grade: usize) -> Table {
+    let mut blurred = of.clone();
+    blurred.grades[grade].defaults += 1;
+    blurred.grades[grade + 1].defaults -= 1;
+    blurred
 }
 
-pub fn cases() -> Vec<Case> {
-    let case = |name, shape, call, tables| Case {
+fn case(name: &'static str, shape: &'static str, call: Call, tables: [Table; 2]) -> Case {
+    Case {
         name,
         shape,
         call,
         tables,
         kind: 0,
-    };
-    let alone = |table: Table| [table.clone(), table];
-    let prices = Call::Cheapest { u: 1_000, v: 70 };
-    let mixed = random(7);
+    }
+}
+
+/// For a call that works on one place.
+fn alone(table: Table) -> [Table; 2] {
+    [table.clone(), table]
+}
+
+/// On tables of the same D and S.
+fn comparisons() -> Vec<Case> {
+    let (rising, mixed) = (rising(), mixed());
+    let compare = |shape, tables| case("compare", shape, Call::Compare, tables);
     vec![
+        compare("equal, 40 blocks", alone(rising.clone())),
+        compare("first, 40 blocks", [rising.clone(), blurred(&rising, 8)]),
+        compare("crossing, 40 blocks", [blurred(&rising, 6), blurred(&rising, 8)]),
+        compare("random", [mixed.clone(), shuffled(&mixed, 8)]),
+        compare("equal, one block", alone(upside_down(&rising))),
+    ]
+}
+
+/// On books of different sizes.
+fn comparisons_on_shares() -> Vec<Case> {
+    let half = rising_half();
+    let whole = twice(&half);
+    let compare = |shape, tables| case("compare_shares", shape, Call::CompareShares, tables);
+    vec![
+        compare("equal, 40 blocks", [half.clone(), whole.clone()]),
+        compare("first, 40 blocks", [half.clone(), blurred(&whole, 8)]),
+        compare("crossing, 40 blocks", [blurred(&half, 10), blurred(&whole, 8)]),
+        compare("random", [random(7, 2_400), random(8, 1_200)]),
+        compare("equal, one block", [upside_down(&half), upside_down(&whole)]),
+    ]
+}
+
+pub fn cases() -> Vec<Case> {
+    let prices = Call::Cheapest { u: 1_000, v: 70 };
+    let falling = || upside_down(&rising());
+    let mut cases = vec![
         case("load", "obligors", Call::Load, alone(rising())),
         Case {
             kind: 1,
@@ -121,32 +176,32 @@ pub fn cases() -> Vec<Case> {
         },
         case("clear", "", Call::Clear, alone(rising())),
         case("pool", "40 blocks", Call::Pool, alone(rising())),
-        case("pool", "random", Call::Pool, alone(mixed.clone())),
+        case("pool", "random", Call::Pool, alone(mixed())),
         case("pool", "one block", Call::Pool, alone(falling())),
         case("pool", "40 blocks, then one", Call::Pool, alone(collapsing())),
         case("pool", "every second grade empty", Call::Pool, alone(half_empty())),
         case("cheapest", "40 blocks", prices, alone(rising())),
-        case("cheapest", "random", prices, alone(mixed.clone())),
-        case("compare", "equal, 40 blocks", Call::Compare, alone(rising())),
-        case("compare", "first, 40 blocks", Call::Compare, [rising(), blurred(8)]),
-        case("compare", "crossing, 40 blocks", Call::Compare, [blurred(6), blurred(8)]),
-        case("compare", "random", Call::Compare, [mixed.clone(), shuffled(&mixed, 8)]),
-        case("compare", "equal, one block", Call::Compare, alone(falling())),
+        case("cheapest", "random", prices, alone(mixed())),
+    ];
+    cases.extend(comparisons());
+    cases.extend(comparisons_on_shares());
+    cases.extend([
         case("measures", "40 blocks", Call::Measures, alone(rising())),
-        case("measures", "random", Call::Measures, alone(mixed.clone())),
+        case("measures", "random", Call::Measures, alone(mixed())),
         case("measures", "upside down", Call::Measures, alone(falling())),
         case("brier", "", Call::Brier, alone(rising())),
         case("spread", "40 blocks", Call::Spread, alone(rising())),
-        case("spread", "random", Call::Spread, alone(mixed.clone())),
+        case("spread", "random", Call::Spread, alone(mixed())),
         case("spread", "one block", Call::Spread, alone(falling())),
-        case("write", "both places", Call::Write, [rising(), mixed]),
-    ]
+        case("write", "both places", Call::Write, [rising(), mixed()]),
+    ]);
+    cases
 }
 
 impl Case {
     /// The book that load reads: 16 raters of 40 grades, the last one's table being the first of the case.
     pub fn full_book(&self) -> Vec<u8> {
-        let others: Vec<Table> = (1..16).map(random).collect();
+        let others: Vec<Table> = (1..16).map(|seed| random(seed, 24_000)).collect();
         let mut tables: Vec<(&Table, u8)> = others.iter().map(|table| (table, 0)).collect();
         tables.push((&self.tables[0], self.kind));
         reference::book::write_kinds(&tables)
@@ -162,23 +217,55 @@ impl Case {
 #[cfg(test)]
 mod tests {
     use super::*;
+    use reference::cutoff::{verdict, Verdict};
     use reference::pooling::blocks;
+    use reference::shares::{verdict_on_shares, MAX_OBLIGORS_ON_SHARES};
     use reference::table::Grade;
 
     #[test]
     fn shapes_are_as_named() {
         let counts = |table: &Table| blocks(table).len();
         assert_eq!(counts(&rising()), 40);
-        assert_eq!(counts(&falling()), 1);
+        assert_eq!(counts(&upside_down(&rising())), 1);
         assert_eq!(counts(&collapsing()), 1);
-        assert_eq!((counts(&blurred(6)), counts(&blurred(8))), (40, 40));
         assert_eq!(counts(&half_empty()), 20);
         let inner = Table {
             grades: collapsing().grades[1..].to_vec(),
         };
         assert_eq!(counts(&inner), 39);
-        assert!((5..20).contains(&counts(&random(7))));
+        assert!((5..20).contains(&counts(&mixed())));
         let full = |grade: &Grade| grade.obligors == 25_000;
         assert!(rising().grades.iter().all(full));
+    }
+
+    fn word(verdict: Verdict) -> &'static str {
+        match verdict {
+            Verdict::Equal => "equal",
+            Verdict::First(_) => "first",
+            Verdict::Second(_) => "second",
+            Verdict::Crossing(..) => "crossing",
+        }
+    }
+
+    #[test]
+    fn comparisons_are_as_named() {
+        for case in comparisons().iter().chain(&comparisons_on_shares()) {
+            let [first, second] = &case.tables;
+            let on_shares = matches!(case.call, Call::CompareShares);
+            let verdict = if on_shares { verdict_on_shares } else { verdict };
+            if let Some((named, _)) = case.shape.split_once(", ") {
+                assert_eq!(word(verdict(first, second)), named);
+            }
+            let expected = match case.shape.split_once(", ") {
+                Some((_, "40 blocks")) => 40..=40,
+                Some(_) => 1..=1,
+                None => 2..=20,
+            };
+            for table in &case.tables {
+                assert!(expected.contains(&blocks(table).len()), "{}: {}", case.name, case.shape);
+                assert!(!on_shares || table.obligors() <= MAX_OBLIGORS_ON_SHARES);
+            }
+            assert_eq!(on_shares, first.obligors() != second.obligors());
+        }
     }
 }

@@ -10,7 +10,7 @@ mod plain;
 mod proved;
 mod version;
 
-use cases::cases;
+use cases::{cases, Case};
 use reference::desk::Desk as ReferenceDesk;
 
 fn main() {
@@ -39,21 +39,64 @@ fn main() {
 
 /// Ends with status 1 where a version answers otherwise than the reference does.
 fn check() {
-    let mut wrong = 0;
-    for case in cases() {
-        let expected = measure::outcome::<ReferenceDesk>(&case);
-        for (name, found) in [
-            ("proved", measure::outcome::<proved::Desk>(&case)),
-            ("optimised", measure::outcome::<plain::Desk>(&case)),
-        ] {
-            if !found.agrees(&expected, &case) {
-                wrong += 1;
-                eprintln!("{} {}: {name} answers {found:?}, reference {expected:?}", case.name, case.shape);
-            }
-        }
+    let wrong: Vec<String> = cases().iter().flat_map(differences).collect();
+    for line in &wrong {
+        eprintln!("{line}");
     }
-    if wrong > 0 {
+    if !wrong.is_empty() {
         std::process::exit(1);
     }
     println!("the three versions answer alike on all {} inputs", cases().len());
+}
+
+/// What a version answers otherwise than the reference does.
+fn differences(case: &Case) -> Vec<String> {
+    let expected = measure::outcome::<ReferenceDesk>(case);
+    let found = [
+        ("proved", measure::outcome::<proved::Desk>(case)),
+        ("optimised", measure::outcome::<plain::Desk>(case)),
+    ];
+    let wrong = found.into_iter().filter(|(_, found)| !found.agrees(&expected, case));
+    let line = |(name, found)| format!("{} {}: {name} answers {found:?}, reference {expected:?}", case.name, case.shape);
+    wrong.map(line).collect()
+}
+
+#[cfg(test)]
+mod tests {
+    use super::*;
+    use cases::Call;
+    use reference::lenders::every_lenders;
+    use reference::partners::{one_sided, other_obligors, same_obligors};
+    use reference::population::any_table;
+    use reference::random::Random;
+    use reference::table::Table;
+
+    /// Both comparisons on these tables.
+    fn compare(tables: [Table; 2]) {
+        for call in [Call::Compare, Call::CompareShares] {
+            let case = Case {
+                name: "compare",
+                shape: "any",
+                call,
+                tables: tables.clone(),
+                kind: 0,
+            };
+            assert_eq!(differences(&case), [""; 0], "{tables:?}");
+        }
+    }
+
+    /// The measured tables show few of the ways in which scales lie to each other, and no refusal.
+    #[test]
+    fn comparisons_agree_on_random_tables() {
+        let mut random = Random::of_seed(6);
+        for _ in 0..20 {
+            for lenders in every_lenders() {
+                compare(lenders.tables(&mut random));
+            }
+            for pair in [same_obligors, other_obligors, one_sided] {
+                compare(pair(&mut random).into());
+            }
+            compare([any_table(&mut random), any_table(&mut random)]);
+        }
+    }
 }

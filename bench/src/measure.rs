@@ -57,6 +57,7 @@ impl<V: Version> Scene<V> {
             Call::Pool => times.for_each(|_| drop(black_box(desk.pool(black_box(1), black_box(&mut self.numbers))))),
             Call::Cheapest { u, v } => times.for_each(|_| drop(black_box(desk.cheapest(black_box(1), black_box(u), black_box(v))))),
             Call::Compare => times.for_each(|_| drop(black_box(black_box(desk).compare()))),
+            Call::CompareShares => times.for_each(|_| drop(black_box(black_box(desk).compare_shares()))),
             Call::Measures => times.for_each(|_| drop(black_box(desk.measures(black_box(1))))),
             Call::Brier => times.for_each(|_| drop(black_box(desk.brier(black_box(1))))),
             Call::Spread => times.for_each(|_| drop(black_box(desk.spread(black_box(1))))),
@@ -101,11 +102,7 @@ pub struct Outcome {
 
 impl Outcome {
     pub fn agrees(&self, other: &Outcome, case: &Case) -> bool {
-        let [first, second] = &case.tables;
-        self.answer.agrees(&other.answer, [first, second])
-            && self.numbers == other.numbers
-            && self.bytes == other.bytes
-            && self.desk == other.desk
+        self.answer.agrees(&other.answer, case) && self.numbers == other.numbers && self.bytes == other.bytes && self.desk == other.desk
     }
 }
 
@@ -123,6 +120,7 @@ pub fn outcome<V: Version>(case: &Case) -> Outcome {
         Call::Pool => desk.pool(1, numbers).into(),
         Call::Cheapest { u, v } => desk.cheapest(1, u, v).into(),
         Call::Compare => desk.compare().into(),
+        Call::CompareShares => desk.compare_shares().into(),
         Call::Measures => desk.measures(1).into(),
         Call::Brier => desk.brier(1).into(),
         Call::Spread => desk.spread(1).into(),

@@ -45,6 +45,11 @@ pub fn compare(desk: &Desk) -> Result<Verdict, u32> {
 }
 
 #[inline(always)]
+pub fn compare_shares(desk: &Desk) -> Result<Verdict, u32> {
+    answered(|answer| sys::compare_shares(desk, answer))
+}
+
+#[inline(always)]
 pub fn measures(desk: &Desk, place: u32) -> Result<Measures, u32> {
     answered(|answer| sys::measures(desk, place, answer))
 }

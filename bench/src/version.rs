@@ -12,6 +12,7 @@ pub trait Version: Clone {
     fn pool(&self, place: u32, numbers: &mut [u32]) -> impl Into<Answer>;
     fn cheapest(&self, place: u32, u: u32, v: u32) -> impl Into<Answer>;
     fn compare(&self) -> impl Into<Answer>;
+    fn compare_shares(&self) -> impl Into<Answer>;
     fn measures(&self, place: u32) -> impl Into<Answer>;
     fn brier(&self, place: u32) -> impl Into<Answer>;
     fn spread(&self, place: u32) -> impl Into<Answer>;
@@ -35,6 +36,7 @@ entry_points! {
     plain_pool: &plain::Desk, pool(place: u32, numbers: &mut [u32]) -> Result<(), u32>;
     plain_cheapest: &plain::Desk, cheapest(place: u32, u: u32, v: u32) -> Result<plain::Cheapest, u32>;
     plain_compare: &plain::Desk, compare() -> Result<plain::Verdict, u32>;
+    plain_compare_shares: &plain::Desk, compare_shares() -> Result<plain::Verdict, u32>;
     plain_measures: &plain::Desk, measures(place: u32) -> Result<plain::Measures, u32>;
     plain_brier: &plain::Desk, brier(place: u32) -> Result<plain::Fraction, u32>;
     plain_spread: &plain::Desk, spread(place: u32) -> Result<plain::Spread, u32>;
@@ -44,6 +46,7 @@ entry_points! {
     reference_pool: &ReferenceDesk, pool(place: u32, numbers: &mut [u32]) -> Result<(), u32>;
     reference_cheapest: &ReferenceDesk, cheapest(place: u32, u: u32, v: u32) -> Result<(u32, u64), u32>;
     reference_compare: &ReferenceDesk, compare() -> Result<reference::cutoff::Verdict, u32>;
+    reference_compare_shares: &ReferenceDesk, compare_shares() -> Result<reference::cutoff::Verdict, u32>;
     reference_measures: &ReferenceDesk, measures(place: u32) -> Result<reference::measures::Measures, u32>;
     reference_brier: &ReferenceDesk, brier(place: u32) -> Result<(u64, u64), u32>;
     reference_spread: &ReferenceDesk, spread(place: u32) -> Result<reference::spread::Spread, u32>;
@@ -52,8 +55,8 @@ entry_points! {
 
 /// The face of a version, from the function that makes an empty desk and those that make the calls on it.
 macro_rules! version {
-    ($name:literal, $desk:ty, $empty:path, $load:expr, $clear:path, $pool:path, $cheapest:path, $compare:path, $measures:path,
-     $brier:path, $spread:path, $write:path) => {
+    ($name:literal, $desk:ty, $empty:path, $load:expr, $clear:path, $pool:path, $cheapest:path, $compare:path, $compare_shares:path,
+     $measures:path, $brier:path, $spread:path, $write:path) => {
         impl Version for $desk {
             const NAME: &'static str = $name;
             fn empty() -> Self {
@@ -78,6 +81,10 @@ macro_rules! version {
             #[inline(always)]
             fn compare(&self) -> impl Into<Answer> {
                 $compare(self)
+            }
+            #[inline(always)]
+            fn compare_shares(&self) -> impl Into<Answer> {
+                $compare_shares(self)
             }
             #[inline(always)]
             fn measures(&self, place: u32) -> impl Into<Answer> {
@@ -108,6 +115,7 @@ version!(
     proved::pool,
     proved::cheapest,
     proved::compare,
+    proved::compare_shares,
     proved::measures,
     proved::brier,
     proved::spread,
@@ -122,6 +130,7 @@ version!(
     plain_pool,
     plain_cheapest,
     plain_compare,
+    plain_compare_shares,
     plain_measures,
     plain_brier,
     plain_spread,
@@ -136,6 +145,7 @@ version!(
     reference_pool,
     reference_cheapest,
     reference_compare,
+    reference_compare_shares,
     reference_measures,
     reference_brier,
     reference_spread,

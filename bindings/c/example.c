@@ -1,8 +1,11 @@
-/* example BOOK BOOK [RATER RATER]: says which of two rating scales over the same obligors is better. */
+/* example [--shares] BOOK BOOK [RATER RATER]: says which of two rating scales over the same obligors is better; with --shares, of two over
+ * different books. */
 #include "desk.h"
 #include <inttypes.h>
+#include <stdbool.h>
 #include <stdio.h>
 #include <stdlib.h>
+#include <string.h>
 
 static void accept_or_exit(const char *what, uint32_t refusal)
 {
@@ -66,26 +69,46 @@ static void say_costs(const Desk *desk, DeskPrice price)
     printf(" the first costs %" PRId64 " and the second %" PRId64 ".\n", first.cost, second.cost);
 }
 
-int main(int count, char **words)
+/* Prices on shares are for all defaults or survivors of a table, whichever table it is. */
+static void say_dearer(const char *dearer, DeskPrice price)
+{
+    printf("At %" PRIu32 " for all defaults missed and %" PRIu32 " for all survivors turned away", price.u, price.v);
+    printf(" the %s costs more.\n", dearer);
+}
+
+static void compare(const Desk *desk, bool on_shares)
 {
     const char *const verdicts[] = {"The scales cost the same at all prices.", "The first scale is better.",
                                     "The second scale is better.", "Each scale is better at some prices."};
-    if (count != 3 && count != 5) {
-        fprintf(stderr, "usage: %s BOOK BOOK [RATER RATER]\n", words[0]);
+    DeskVerdict verdict;
+    accept_or_exit("compare", on_shares ? desk_compare_shares(desk, &verdict) : desk_compare(desk, &verdict));
+    puts(verdicts[verdict.kind]);
+    const DeskPrice prices[] = {verdict.first_dearer, verdict.second_dearer};
+    for (int i = 0; i < 2; i++) {
+        if (prices[i].u == 0 && prices[i].v == 0) {
+            continue; /* it costs more at no prices */
+        }
+        if (on_shares) {
+            say_dearer(i == 0 ? "first" : "second", prices[i]);
+        } else {
+            say_costs(desk, prices[i]);
+        }
+    }
+}
+
+int main(int count, char **words)
+{
+    const bool on_shares = count > 1 && strcmp(words[1], "--shares") == 0;
+    char **const books = words + (on_shares ? 2 : 1), **const raters = books + 2;
+    const int given = count - (on_shares ? 2 : 1);
+    if (given != 2 && given != 4) {
+        fprintf(stderr, "usage: %s [--shares] BOOK BOOK [RATER RATER]\n", words[0]);
         return 2;
     }
     Desk desk;
-    DeskVerdict verdict;
     desk_empty(&desk);
-    load(&desk, 1, words[1], count == 5 ? words[3] : "1");
-    load(&desk, 2, words[2], count == 5 ? words[4] : "1");
-    accept_or_exit("compare", desk_compare(&desk, &verdict));
-    puts(verdicts[verdict.kind]);
-    if (verdict.kind == DESK_SECOND || verdict.kind == DESK_CROSSING) {
-        say_costs(&desk, verdict.first_dearer);
-    }
-    if (verdict.kind == DESK_FIRST || verdict.kind == DESK_CROSSING) {
-        say_costs(&desk, verdict.second_dearer);
-    }
+    load(&desk, 1, books[0], given == 4 ? raters[0] : "1");
+    load(&desk, 2, books[1], given == 4 ? raters[1] : "1");
+    compare(&desk, on_shares);
     return 0;
 }

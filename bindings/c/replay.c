@@ -143,6 +143,15 @@ static bool compare(Desk *desk)
     return true;
 }
 
+static bool compare_shares(Desk *desk)
+{
+    DeskVerdict answer;
+    if (say("compare_shares", desk_compare_shares(desk, &answer))) {
+        say_verdict(&answer);
+    }
+    return true;
+}
+
 static bool measures(Desk *desk)
 {
     uint32_t place;
@@ -208,7 +217,7 @@ static bool write_book(Desk *desk)
 }
 
 /* The operations by their numbers, from 1. */
-static bool (*const operations[])(Desk *) = {load, clear, pool, cheapest, compare, measures, brier, spread, write_book};
+static bool (*const operations[])(Desk *) = {load, clear, pool, cheapest, compare, measures, brier, spread, write_book, compare_shares};
 
 static bool run_command(Desk *desk)
 {

@@ -14,6 +14,7 @@ pub enum Answer {
     /// g and cost.
     Cheapest(Result<(u32, u64), Refusal>),
     Compare(Result<Verdict, Refusal>),
+    CompareShares(Result<Verdict, Refusal>),
     Measures(Result<Measures, Refusal>),
     /// Numerator and denominator.
     Brier(Result<(u64, u64), Refusal>),
@@ -35,6 +36,7 @@ impl Answer {
                 vec![g.to_string(), cost.to_string()]
             }),
             Answer::Compare(answer) => words("compare", answer, verdict_words),
+            Answer::CompareShares(answer) => words("compare_shares", answer, verdict_words),
             Answer::Measures(answer) => words("measures", answer, measures_words),
             Answer::Brier(answer) => words("brier", answer, |(numerator, denominator)| {
                 texts(&[numerator, denominator])
@@ -54,7 +56,7 @@ impl Answer {
         match self {
             Answer::Load(answer) | Answer::Clear(answer) | Answer::Pool(answer, _) => answer.err(),
             Answer::Cheapest(answer) => answer.err(),
-            Answer::Compare(answer) => answer.err(),
+            Answer::Compare(answer) | Answer::CompareShares(answer) => answer.err(),
             Answer::Measures(answer) => answer.err(),
             Answer::Brier(answer) => answer.err(),
             Answer::Spread(answer) => answer.err(),

@@ -8,6 +8,7 @@ use crate::desk::Desk;
 use crate::generate::Script;
 use crate::random::Random;
 use crate::script::Call;
+use crate::shares::{cheapest_cost_on_shares, MAX_PRICE_ON_SHARES};
 use crate::spread::lawful;
 use crate::table::{Table, MILLION};
 use std::io::{self, Write};
@@ -101,7 +102,10 @@ fn line_is_lawful(desk: &Desk, call: &Call, answer: &Answer, line: &str) -> bool
         return false;
     };
     match (answer, call) {
-        (Answer::Compare(Ok(verdict)), _) => verdict_is_lawful(desk, verdict, line),
+        (Answer::Compare(Ok(verdict)), _) => verdict_is_lawful(desk, answer, verdict, dearer, line),
+        (Answer::CompareShares(Ok(verdict)), _) => {
+            verdict_is_lawful(desk, answer, verdict, dearer_on_shares, line)
+        }
         (Answer::Spread(Ok(_)), Call::Spread { place }) => spread_is_lawful(desk, *place, line),
         _ => line == answer.line(),
     }
@@ -124,9 +128,18 @@ fn spread_is_lawful(desk: &Desk, place: u32, line: &str) -> bool {
     }
 }
 
+/// Whether one table costs more than the other at these prices, which are lawful.
+type Dearer = fn(&Table, &Table, &Price) -> bool;
+
 /// The verdict must be the same; its price pairs may be others, if they show what they have to.
-fn verdict_is_lawful(desk: &Desk, verdict: &Verdict, line: &str) -> bool {
-    let own = Answer::Compare(Ok(*verdict)).line();
+fn verdict_is_lawful(
+    desk: &Desk,
+    answer: &Answer,
+    verdict: &Verdict,
+    dearer: Dearer,
+    line: &str,
+) -> bool {
+    let own = answer.line();
     let words: Vec<&str> = own.split(' ').take(3).collect();
     let Some(numbers) = numbers_behind(line, &words.join(" ")) else {
         return false;
@@ -139,8 +152,8 @@ fn verdict_is_lawful(desk: &Desk, verdict: &Verdict, line: &str) -> bool {
         lost_survivor: pair[1],
     };
     let prices: Vec<Price> = numbers.chunks(2).map(price).collect();
-    let first = desk.table(1).expect("compare was accepted");
-    let second = desk.table(2).expect("compare was accepted");
+    let first = desk.table(1).expect("the comparison was accepted");
+    let second = desk.table(2).expect("the comparison was accepted");
     match verdict {
         Verdict::Equal => true,
         Verdict::First(_) => dearer(second, first, &prices[0]),
@@ -151,11 +164,19 @@ fn verdict_is_lawful(desk: &Desk, verdict: &Verdict, line: &str) -> bool {
     }
 }
 
-/// Whether one table costs more than the other at lawful prices.
+fn up_to(highest: u64, price: &Price) -> bool {
+    price.missed_default <= highest && price.lost_survivor <= highest
+}
+
+/// In the first comparison.
 fn dearer(one: &Table, other: &Table, price: &Price) -> bool {
-    price.missed_default <= MILLION
-        && price.lost_survivor <= MILLION
-        && cheapest_cost(one, price) > cheapest_cost(other, price)
+    up_to(MILLION, price) && cheapest_cost(one, price) > cheapest_cost(other, price)
+}
+
+/// In the second comparison, request R-6 of document 02.
+fn dearer_on_shares(one: &Table, other: &Table, price: &Price) -> bool {
+    up_to(MAX_PRICE_ON_SHARES, price)
+        && cheapest_cost_on_shares(one, price) > cheapest_cost_on_shares(other, price)
 }
 
 /// Runs a replay program on a script.

@@ -1,6 +1,7 @@
 //! Cutoffs, prices and the verdict between two raters.
 
 use crate::table::Table;
+use std::cmp::Ordering;
 
 /// The price of a missed default (u) and of a survivor turned away (v).
 #[derive(Clone, Copy, Debug, PartialEq, Eq)]
@@ -78,7 +79,7 @@ pub enum Verdict {
 
 /// The prices at which two cutoffs of one table cost the same: u(D - y) + vx = u(D - y') + vx'
 /// holds where u : v is as x' - x to y' - y. Every bend of the envelope is such a direction.
-fn break_even_prices(cutoffs: &[Cutoff]) -> Vec<Price> {
+pub(crate) fn break_even_prices(cutoffs: &[Cutoff]) -> Vec<Price> {
     let mut prices = Vec::new();
     for (turned_away, milder) in cutoffs.iter().enumerate() {
         for stricter in &cutoffs[turned_away + 1..] {
@@ -103,11 +104,20 @@ pub fn verdict(first: &Table, second: &Table) -> Verdict {
     let (first, second) = (cutoffs(first), cutoffs(second));
     let mut prices = break_even_prices(&first);
     prices.extend(break_even_prices(&second));
-    let dearer_at = |one: &[Cutoff], other: &[Cutoff]| {
-        let mut prices = prices.iter().copied();
-        prices.find(|price| envelope(one, price) > envelope(other, price))
+    verdict_of_costs(&prices, |price| {
+        envelope(&first, price).cmp(&envelope(&second, price))
+    })
+}
+
+/// The verdict, where the prices at which one of the two costs more are among these if there are
+/// any: how the first's cheapest cost stands to the second's at each of them.
+pub(crate) fn verdict_of_costs(prices: &[Price], costs: impl Fn(&Price) -> Ordering) -> Verdict {
+    let orders: Vec<Ordering> = prices.iter().map(costs).collect();
+    let price_where = |order: Ordering| {
+        let index = orders.iter().position(|&found| found == order);
+        index.map(|index| prices[index])
     };
-    match (dearer_at(&first, &second), dearer_at(&second, &first)) {
+    match (price_where(Ordering::Greater), price_where(Ordering::Less)) {
         (None, None) => Verdict::Equal,
         (None, Some(second_dearer)) => Verdict::First(second_dearer),
         (Some(first_dearer), None) => Verdict::Second(first_dearer),

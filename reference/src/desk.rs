@@ -1,10 +1,11 @@
 //! The desk: document 01's name for what the calls work on. It has two places, 1 and 2; a place
-//! is empty or holds the table of one rater. Every call refuses in document 01's order.
+//! is empty or holds the table of one rater. Every call refuses in the documents' order.
 
 use crate::answer::Answer;
 use crate::cutoff::{cheapest, verdict, Price, Verdict};
 use crate::measures::{brier, measures, Measures};
 use crate::script::Call;
+use crate::shares::{verdict_on_shares, MAX_OBLIGORS_ON_SHARES};
 use crate::spread::{spread, Spread};
 use crate::table::{Refusal, Table, MILLION};
 use crate::{book, pooling};
@@ -37,6 +38,7 @@ impl Desk {
             Call::Pool { place, length } => self.answer_pool(place, length),
             Call::Cheapest { place, u, v } => Answer::Cheapest(self.cheapest(place, u, v)),
             Call::Compare => Answer::Compare(self.compare()),
+            Call::CompareShares => Answer::CompareShares(self.compare_shares()),
             Call::Measures { place } => Answer::Measures(self.measures(place)),
             Call::Brier { place } => Answer::Brier(self.brier(place)),
             Call::Spread { place } => Answer::Spread(self.spread(place)),
@@ -94,19 +96,37 @@ impl Desk {
         Ok(cheapest(table, &price))
     }
 
-    /// 22 for place 1, then for place 2; 23 for either; 24 for either; 25.
-    pub fn compare(&self) -> Result<Verdict, Refusal> {
-        let (first, second) = (self.table(1)?, self.table(2)?);
-        if first.defaults() == 0 || second.defaults() == 0 {
+    /// What both comparisons test: 22 for place 1, then for place 2; 23 for either; 24 for either.
+    fn both_tables(&self) -> Result<[&Table; 2], Refusal> {
+        let tables = [self.table(1)?, self.table(2)?];
+        if tables.iter().any(|table| table.defaults() == 0) {
             return Err(23);
         }
-        if first.survivors() == 0 || second.survivors() == 0 {
+        if tables.iter().any(|table| table.survivors() == 0) {
             return Err(24);
         }
+        Ok(tables)
+    }
+
+    /// What both comparisons test; 25.
+    pub fn compare(&self) -> Result<Verdict, Refusal> {
+        let [first, second] = self.both_tables()?;
         if first.defaults() != second.defaults() || first.survivors() != second.survivors() {
             return Err(25);
         }
         Ok(verdict(first, second))
+    }
+
+    /// Request R-6 of document 02: what both comparisons test; 35 for either.
+    pub fn compare_shares(&self) -> Result<Verdict, Refusal> {
+        let tables = self.both_tables()?;
+        if tables
+            .iter()
+            .any(|table| table.obligors() > MAX_OBLIGORS_ON_SHARES)
+        {
+            return Err(35);
+        }
+        Ok(verdict_on_shares(tables[0], tables[1]))
     }
 
     /// 1, 22, 23, 24.

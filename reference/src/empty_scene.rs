@@ -231,7 +231,7 @@ impl Generator {
             self.emit(Call::Cheapest { place, u, v });
         }
         self.compare_with(3 - place, &table);
-        if self.random.chance(30) {
+        if self.random.chance(50) {
             self.write_and_load();
         }
     }
@@ -265,6 +265,6 @@ impl Generator {
         self.empty(other_place);
         let draft = Draft::around(&mut self.random, &other);
         self.load(other_place, draft);
-        self.emit(Call::Compare);
+        self.compare_both_ways();
     }
 }

@@ -7,11 +7,13 @@ use crate::cut_scene::{every_cut, Cut};
 use crate::desk::Desk;
 use crate::draft::Draft;
 use crate::empty_scene::{every_pattern, Pattern};
+use crate::lenders::{lenders_in_turn, Lenders};
 use crate::nearly_empty_scene::{every_rows, Rows};
 use crate::pair_scene::{every_pair, FaultPair};
 use crate::random::Random;
 use crate::scenes::SCENES;
 use crate::script::{decode, Call};
+use crate::shares_scene::{faults_in_turn, Holds};
 use crate::table::Table;
 use crate::tail::broken_tail;
 use std::collections::BTreeMap;
@@ -24,13 +26,15 @@ pub struct Script {
     pub tail: Vec<u8>,
 }
 
-/// What scenes have done to books, by the index of the call that loads them.
+/// What scenes have done to books, by the index of the call that loads them, and to the tables on
+/// the desk, by the index of the call that compares them.
 #[derive(Default)]
 pub(crate) struct Marks {
     pub cuts: BTreeMap<usize, Cut>,
     pub pairs: BTreeMap<usize, FaultPair>,
     pub rows: BTreeMap<usize, Rows>,
     pub rates: BTreeMap<usize, Rates>,
+    pub lenders: BTreeMap<usize, Lenders>,
 }
 
 impl Script {
@@ -38,7 +42,7 @@ impl Script {
         Script::with_marks(seed, calls).0
     }
 
-    /// The script, and what its scenes have done to books.
+    /// The script, and what its scenes have done.
     pub(crate) fn with_marks(seed: u64, calls: usize) -> (Script, Marks) {
         let mut generator = Generator::of_seed(seed);
         while generator.calls.len() < calls {
@@ -90,6 +94,8 @@ pub struct Generator {
     patterns_to_come: Vec<Pattern>,
     rows_to_come: Vec<Rows>,
     rates_to_come: Vec<Rates>,
+    lenders_to_come: Vec<Lenders>,
+    faults_to_come: Vec<[Holds; 2]>,
     name: &'static str,
 }
 
@@ -107,6 +113,8 @@ impl Generator {
             patterns_to_come: vec![],
             rows_to_come: vec![],
             rates_to_come: vec![],
+            lenders_to_come: vec![],
+            faults_to_come: vec![],
             name: "",
         }
     }
@@ -159,6 +167,14 @@ impl Generator {
         self.random.deal(&mut self.rates_to_come, rates_in_turn)
     }
 
+    pub(crate) fn next_lenders(&mut self) -> Lenders {
+        self.random.deal(&mut self.lenders_to_come, lenders_in_turn)
+    }
+
+    pub(crate) fn next_fault(&mut self) -> [Holds; 2] {
+        self.random.deal(&mut self.faults_to_come, faults_in_turn)
+    }
+
     /// A load of a book that is cut wrong in this manner.
     pub(crate) fn load_cut(&mut self, place: u32, draft: Draft, cut: Cut) {
         self.marks.cuts.insert(self.calls.len(), cut);
@@ -181,6 +197,12 @@ impl Generator {
     pub(crate) fn load_rates(&mut self, place: u32, draft: Draft, rates: Rates) {
         self.marks.rates.insert(self.calls.len(), rates);
         self.load(place, draft);
+    }
+
+    /// The second comparison of such tables.
+    pub(crate) fn compare_lenders(&mut self, lenders: Lenders) {
+        self.marks.lenders.insert(self.calls.len(), lenders);
+        self.emit(Call::CompareShares);
     }
 
     pub fn load_pair(&mut self, (first, second): (Table, Table)) {

@@ -1,14 +1,15 @@
-//! The rating scale desk in plain Rust, written from document 01, requests of document
+//! The rating scale desk in plain Rust, written from document 01, requests of document
 //! 02 and REPLAY.md alone: a second opinion on the proved library. Everything is done by
 //! definition, not cleverly, so that it can be read next to the documents.
 //!
-//! * the library: `table`, `book`, `pooling`, `cutoff`, `measures`, `spread`, `desk`, `print`;
+//! * the library: `table`, `book`, `pooling`, `cutoff`, `shares`, `measures`, `spread`, `desk`,
+//!   `print`;
 //! * the scripts of REPLAY.md: `script` (calls), `answer` (lines);
-//! * the generator: `random`, `announced` (rates), `population` (tables), `partners` (pairs of
-//!   tables), `diagonal` (tables for Pietra), `draft` (books), `damage` and `cuts` (of books),
-//!   `operands`, `scenes`, `cut_scene`, `pair_scene`, `band_scene`, `empty_scene`,
-//!   `nearly_empty_scene`, `announced_scene`, `tail`, `generate`;
-//! * the comparison: `compare`, `tally`, `empty_tally`, `announced_tally`;
+//! * the generator: `random`, `announced` (rates), `population` (tables), `partners` and `lenders`
+//!   (pairs of tables), `diagonal` (tables for Pietra), `draft` (books), `damage` and `cuts` (of
+//!   books), `operands`, `scenes`, `cut_scene`, `pair_scene`, `band_scene`, `empty_scene`,
+//!   `nearly_empty_scene`, `announced_scene`, `shares_scene`, `tail`, `generate`;
+//! * the comparison: `compare`, `tally`, `empty_tally`, `announced_tally`, `shares_tally`;
 //! * `natural`: whole numbers of any size, for the bound on the residual.
 
 pub mod announced;
@@ -28,6 +29,7 @@ pub mod draft;
 pub mod empty_scene;
 pub(crate) mod empty_tally;
 pub mod generate;
+pub mod lenders;
 pub mod measures;
 pub mod natural;
 pub mod nearly_empty_scene;
@@ -40,6 +42,9 @@ pub mod print;
 pub mod random;
 pub mod scenes;
 pub mod script;
+pub mod shares;
+pub mod shares_scene;
+pub(crate) mod shares_tally;
 pub mod spread;
 pub mod table;
 pub mod tail;

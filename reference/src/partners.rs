@@ -19,7 +19,7 @@ pub fn mixed_outcomes(random: &mut Random) -> Table {
 /// Two raters over the same obligors, in either order.
 pub fn same_obligors(random: &mut Random) -> (Table, Table) {
     if random.chance(30) {
-        return two_coarsenings(random);
+        return two_coarsenings(random, MAX_OBLIGORS / 2);
     }
     let mut base = mixed_outcomes(random);
     if random.chance(50) {
@@ -32,9 +32,10 @@ pub fn same_obligors(random: &mut Random) -> (Table, Table) {
     }
 }
 
-/// Two raters who each lump together other grades of one rising scale: these cross often.
-fn two_coarsenings(random: &mut Random) -> (Table, Table) {
-    let most = random.pick(&[20, 300, MAX_OBLIGORS / 2]);
+/// Two raters who each lump together other grades of one rising scale: these cross often. At most
+/// so many defaults, and so many survivors.
+pub(crate) fn two_coarsenings(random: &mut Random, most: u64) -> (Table, Table) {
+    let most = random.pick(&[20, 300, most]);
     let (defaults, survivors) = (random.between(5, most), random.between(5, most));
     let parts = random.pick(&[4, 8, 20, MAX_GRADES]);
     let mut fine = partition(random, defaults, survivors, parts);
@@ -65,6 +66,15 @@ pub fn partner(random: &mut Random, base: &Table) -> Table {
     let mut table = maker(random, base);
     announce(random, &mut table);
     table
+}
+
+/// A table that costs as much at all prices.
+pub(crate) fn equal_partner(random: &mut Random, base: &Table) -> Table {
+    match random.between(0, 2) {
+        0 => base.clone(),
+        1 => pooled_scale(base),
+        _ => split_evenly(random, base),
+    }
 }
 
 /// Two raters whose D or S differ by one.
@@ -139,7 +149,7 @@ fn split_evenly(random: &mut Random, base: &Table) -> Table {
 }
 
 /// Joins some neighbours.
-fn coarser(random: &mut Random, base: &Table) -> Table {
+pub(crate) fn coarser(random: &mut Random, base: &Table) -> Table {
     let mut rows: Vec<(u64, u64)> = Vec::new();
     let percent = random.pick(&[10, 30, 30, 30, 60, 100]);
     for grade in &base.grades {
@@ -175,7 +185,12 @@ fn finer(random: &mut Random, base: &Table) -> Table {
 
 /// These defaults and survivors, sorted at random into at most so many grades, seldom with empty
 /// ones among them.
-fn partition(random: &mut Random, defaults: u64, survivors: u64, most_grades: usize) -> Table {
+pub(crate) fn partition(
+    random: &mut Random,
+    defaults: u64,
+    survivors: u64,
+    most_grades: usize,
+) -> Table {
     let bad = shares(random, defaults, most_grades);
     let good = shares(random, survivors, most_grades);
     let keeps_empty = random.chance(15);
@@ -203,22 +218,27 @@ fn sorted_partition(random: &mut Random, base: &Table) -> Table {
 fn nudged(random: &mut Random, base: &Table) -> Table {
     let mut table = base.clone();
     for _ in 0..random.between(1, 4) {
-        let from = random.index(table.grades.len());
-        let to = random.index(table.grades.len());
-        let of_default = random.chance(50);
-        let leaves = table.grades[from];
-        let present = match of_default {
-            true => leaves.defaults,
-            false => leaves.survivors(),
-        };
-        if present > 0 {
-            table.grades[from].obligors -= 1;
-            table.grades[from].defaults -= u64::from(of_default);
-            table.grades[to].obligors += 1;
-            table.grades[to].defaults += u64::from(of_default);
-        }
+        move_one(random, &mut table);
     }
     table
+}
+
+/// Moves a default or a survivor from one grade to another; now and then nobody is there to move.
+pub(crate) fn move_one(random: &mut Random, table: &mut Table) {
+    let from = random.index(table.grades.len());
+    let to = random.index(table.grades.len());
+    let of_default = random.chance(50);
+    let leaves = table.grades[from];
+    let present = match of_default {
+        true => leaves.defaults,
+        false => leaves.survivors(),
+    };
+    if present > 0 {
+        table.grades[from].obligors -= 1;
+        table.grades[from].defaults -= u64::from(of_default);
+        table.grades[to].obligors += 1;
+        table.grades[to].defaults += u64::from(of_default);
+    }
 }
 
 fn sorted_and_nudged(random: &mut Random, base: &Table) -> Table {

@@ -14,22 +14,23 @@ use crate::table::{Table, MAX_GRADES, MAX_OBLIGORS};
 pub type Scene = (&'static str, fn(&mut Generator));
 
 /// How often each scene is taken, in proportion.
-pub const SCENES: [(u64, Scene); 16] = [
-    (40, ("two raters, same obligors", Generator::same_obligors)),
+pub const SCENES: [(u64, Scene); 17] = [
+    (38, ("two raters, same obligors", Generator::same_obligors)),
     (8, ("two raters, other obligors", Generator::other_obligors)),
     (14, ("one table, all questions", Generator::one_table)),
-    (34, ("far from the diagonal", Generator::far_from_diagonal)),
-    (34, ("damaged book", Generator::damaged_book)),
-    (22, ("several faults at once", Generator::several_faults)),
-    (22, ("book cut wrong", Generator::book_cut_wrong)),
-    (18, ("two faults of a table", Generator::two_faults)),
+    (50, ("far from the diagonal", Generator::far_from_diagonal)),
+    (56, ("damaged book", Generator::damaged_book)),
+    (27, ("several faults at once", Generator::several_faults)),
+    (35, ("book cut wrong", Generator::book_cut_wrong)),
+    (25, ("two faults of a table", Generator::two_faults)),
     (2, ("junk for a book", Generator::junk_book)),
     (4, ("wandering calls", Generator::wandering)),
     (5, ("at the limits", Generator::limits)),
-    (38, ("at a band's limit", Generator::at_band_limit)),
-    (14, ("some grades empty", Generator::some_empty)),
-    (12, ("all grades empty, or nearly", Generator::nearly_empty)),
-    (11, ("announced rates out of step", Generator::out_of_step)),
+    (40, ("at a band's limit", Generator::at_band_limit)),
+    (16, ("some grades empty", Generator::some_empty)),
+    (16, ("all grades empty, or nearly", Generator::nearly_empty)),
+    (14, ("announced rates out of step", Generator::out_of_step)),
+    (34, ("raters of different books", Generator::other_books)),
     (5, ("write and load back", Generator::write_and_load)),
 ];
 
@@ -37,14 +38,14 @@ impl Generator {
     fn same_obligors(&mut self) {
         let pair = same_obligors(&mut self.random);
         self.load_pair(pair);
-        self.emit(Call::Compare);
-        for _ in 0..self.random.between(0, 3) {
+        self.compare_both_ways();
+        for _ in 0..self.random.between(0, 2) {
             self.question();
         }
         if self.random.chance(10) {
             let place = self.random.pick(&[1, 2]);
             self.empty(place);
-            self.emit(Call::Compare);
+            self.compare_both_ways();
         }
     }
 
@@ -55,7 +56,15 @@ impl Generator {
             _ => (any_table(&mut self.random), any_table(&mut self.random)),
         };
         self.load_pair(pair);
+        self.compare_both_ways();
+    }
+
+    /// Now and then on shares too, where other tables are refused.
+    pub(crate) fn compare_both_ways(&mut self) {
         self.emit(Call::Compare);
+        if self.random.chance(40) {
+            self.emit(Call::CompareShares);
+        }
     }
 
     fn one_table(&mut self) {
@@ -199,7 +208,7 @@ impl Generator {
     /// One call that leaves the desk unchanged.
     fn question(&mut self) {
         let place = self.any_place();
-        match self.random.between(0, 6) {
+        match self.random.between(0, 7) {
             0 => {
                 let length = self.pool_length(place);
                 self.emit(Call::Pool { place, length });
@@ -212,6 +221,7 @@ impl Generator {
             3 => self.emit(Call::Measures { place }),
             4 => self.emit(Call::Brier { place }),
             5 => self.emit(Call::Spread { place }),
+            6 => self.emit(Call::CompareShares),
             _ => {
                 let length = self.write_length();
                 self.emit(Call::Write { length });
@@ -264,7 +274,7 @@ impl Generator {
         self.empty(place);
         let rater = self.random.between(1, tables.len() as u64 + 1) as u32;
         self.emit(Call::Load { place, rater, book });
-        self.emit(Call::Compare);
+        self.compare_both_ways();
         self.emit(Call::Brier { place });
     }
 }

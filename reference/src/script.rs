@@ -42,6 +42,7 @@ pub enum Call {
     Write {
         length: u32,
     },
+    CompareShares,
 }
 
 impl Call {
@@ -61,6 +62,7 @@ impl Call {
             Call::Brier { place } => vec![7, place],
             Call::Spread { place } => vec![8, place],
             Call::Write { length } => vec![9, length],
+            Call::CompareShares => vec![10],
         }
     }
 
@@ -84,6 +86,7 @@ impl Call {
             Call::Brier { .. } => "brier",
             Call::Spread { .. } => "spread",
             Call::Write { .. } => "write",
+            Call::CompareShares => "compare_shares",
         }
     }
 }
@@ -161,6 +164,7 @@ impl<'a> Reader<'a> {
             9 => Call::Write {
                 length: self.length(MAX_WRITE_LENGTH)?,
             },
+            10 => Call::CompareShares,
             _ => return None,
         })
     }

@@ -9,7 +9,7 @@ pub fn broken_tail(random: &mut Random) -> Vec<u8> {
         |numbers: &[u32]| -> Vec<u8> { numbers.iter().flat_map(|n| n.to_le_bytes()).collect() };
     match random.between(0, 3) {
         // An unknown operation; what follows is not carried out.
-        0 => numbers(&[random.pick(&[0, 10, 256 + 5, u32::MAX]), 5, 5, 5]),
+        0 => numbers(&[random.pick(&[0, 11, 256 + 5, u32::MAX]), 5, 5, 5]),
         // A buffer above its limit; what follows is not carried out.
         1 => numbers(&[3, random.pick(&[0, 1, 2]), random.pick(&[513, u32::MAX]), 5]),
         2 => numbers(&[9, random.pick(&[8_193, u32::MAX]), 5]),

@@ -1,6 +1,6 @@
 //! How often one run exercises which operations, verdicts, kinds of Pietra, rates at the limits of
-//! bands, empty grades, announced rates, refusal numbers, books cut wrong, pairs of faults, buffers
-//! and scenes.
+//! bands, empty grades, announced rates, tables of two lenders, refusal numbers, books cut wrong,
+//! pairs of faults, buffers and scenes.
 
 use crate::announced_tally::AnnouncedTally;
 use crate::answer::{verdict_name, Answer};
@@ -14,6 +14,7 @@ use crate::measures::{heights, Measures};
 use crate::pair_scene::{every_pair, FaultPair, Where};
 use crate::pooling::{band, blocks, Rate};
 use crate::script::Call;
+use crate::shares_tally::SharesTally;
 use crate::table::{Refusal, Table};
 use std::cmp::Ordering;
 use std::collections::BTreeMap;
@@ -33,6 +34,7 @@ pub struct Tally {
     far_rates: BTreeMap<&'static str, usize>,
     empty: EmptyTally,
     announced: AnnouncedTally,
+    shares: SharesTally,
     /// For each refusal number, the calls of each operation.
     refusals: BTreeMap<Refusal, BTreeMap<&'static str, usize>>,
     cuts: BTreeMap<Cut, CutLoads>,
@@ -79,6 +81,8 @@ impl Tally {
             self.empty.add(&desk, call, &answer, rows);
             let rates = marks.rates.get(&index).copied();
             self.announced.add(call, &answer, rates);
+            let lenders = marks.lenders.get(&index).copied();
+            self.shares.add(&desk, &answer, lenders);
             if let Some(&cut) = marks.cuts.get(&index) {
                 self.add_cut(cut, call, &answer);
             }
@@ -181,6 +185,13 @@ impl Tally {
                 "| announced rates of loaded tables | times |",
                 &self.announced.loaded,
             ),
+            self.shares.case_table(),
+            self.shares.total_table(),
+            two_columns(
+                "| highest break-even price on shares | times |",
+                &self.shares.prices,
+            ),
+            self.shares.place_table(),
             self.refusal_table(),
             self.cut_table(),
             self.pair_table(),
@@ -303,7 +314,7 @@ pub(crate) fn loads_and_answers(answers: Option<&Answers>) -> (usize, String) {
 }
 
 /// How often each refusal number was the answer, or none.
-fn answer_counts(answers: &Answers) -> String {
+pub(crate) fn answer_counts(answers: &Answers) -> String {
     let counts: Vec<String> = answers
         .iter()
         .map(|(answer, times)| match answer {

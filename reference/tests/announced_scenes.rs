@@ -236,6 +236,7 @@ fn other_scenes_have_no_fall_by_accident() {
         "at the limits",
         "far from the diagonal",
         "one table, all questions",
+        "raters of different books",
         "some grades empty",
         "two raters, other obligors",
         "two raters, same obligors",

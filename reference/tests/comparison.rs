@@ -1,9 +1,11 @@
 //! The comparison itself: it accepts lawful answers and notices every other.
 
+use reference::book;
 use reference::compare::{answers, compare, judge};
 use reference::desk::Desk;
 use reference::generate::Script;
 use reference::script::{decode, Call};
+use reference::table::Table;
 use reference::tally::Tally;
 
 fn own_answers(script: &Script) -> String {
@@ -58,7 +60,8 @@ fn changed_lines(line: &str) -> Vec<String> {
     for index in 0..words.len() {
         let mut words: Vec<String> = words.iter().map(|word| word.to_string()).collect();
         words[index] = match words[index].parse::<u64>() {
-            Ok(number) => (number ^ 1 << 30).to_string(),
+            // No price can be as high, be it of the first comparison or of the second.
+            Ok(number) => (number ^ 1 << 32).to_string(),
             Err(_) => format!("{}0", words[index]),
         };
         changed.push(words.join(" "));
@@ -69,7 +72,7 @@ fn changed_lines(line: &str) -> Vec<String> {
     changed
 }
 
-/// The 2^30 bit of a float's mantissa moves it by less than the bound unless it is large.
+/// The 2^32 bit of a float's mantissa moves it by less than the bound unless it is large.
 fn is_float_line(line: &str) -> bool {
     line.starts_with("spread ok")
 }
@@ -105,22 +108,15 @@ fn missing_and_additional_output_is_noticed() {
     assert!(judge(&script, "").is_err());
 }
 
-/// A script that compares the two raters of table h: crossing.
-fn crossing_script() -> Script {
-    use reference::{book, table::Table};
-    let first = Table::of_rows(&[(5, 2), (1, 1)]);
-    let second = Table::of_rows(&[(2, 0), (4, 3)]);
+/// A script that loads tables of these rows (n, d) into both places and makes these calls.
+fn script_of(rows: [&[(u64, u64)]; 2], questions: &[Call]) -> Script {
+    let tables = rows.map(Table::of_rows);
     let load = |place, rater| Call::Load {
         place,
         rater,
-        book: book::write(&[&first, &second]),
+        book: book::write(&[&tables[0], &tables[1]]),
     };
-    let calls = vec![
-        load(1, 1),
-        load(2, 2),
-        Call::Compare,
-        Call::Spread { place: 1 },
-    ];
+    let calls = [&[load(1, 1), load(2, 2)], questions].concat();
     Script {
         scenes: vec![""; calls.len()],
         calls,
@@ -128,10 +124,13 @@ fn crossing_script() -> Script {
     }
 }
 
+/// Compares the two raters of table h: crossing.
 fn crossing_accepts(compare: &str, total: f64, residual: f64) -> bool {
     let (total, residual) = (total.to_bits(), residual.to_bits());
     let output = format!("load ok\nload ok\n{compare}\nspread ok {total} {residual}\n");
-    judge(&crossing_script(), &output).is_ok()
+    let questions = [Call::Compare, Call::Spread { place: 1 }];
+    let script = script_of([&[(5, 2), (1, 1)], &[(2, 0), (4, 3)]], &questions);
+    judge(&script, &output).is_ok()
 }
 
 #[test]
@@ -148,6 +147,107 @@ fn price_pairs_are_judged_by_their_meaning() {
     assert!(!accepts("first 1 3"));
     assert!(!accepts("second 1 1"));
     assert!(!accepts("equal"));
+}
+
+/// Whether this is accepted as the second comparison of tables of these rows.
+fn shares_accept(rows: [&[(u64, u64)]; 2], answer: &str) -> bool {
+    let script = script_of(rows, &[Call::CompareShares]);
+    let output = format!("load ok\nload ok\ncompare_shares ok {answer}\n");
+    judge(&script, &output).is_ok()
+}
+
+/// The first costs u, u/5 + 2v/5 or v, the second u, u/2 + v/8 or v: at u 1, v 3 they cost 1 and
+/// 7/8, at u 1, v 1 they cost 3/5 and 5/8, at u 1, v 4 both cost 1.
+#[test]
+fn pairs_on_shares_are_judged_by_their_meaning() {
+    let accepts = |pairs: &str| shares_accept([&[(10, 1), (10, 4)], &[(8, 1), (2, 1)]], pairs);
+    assert!(accepts("crossing 1 3 1 1"));
+    assert!(accepts("crossing 2000000 6000000 1000001 1000001"));
+    assert!(accepts("crossing 800000000 2400000000 4 4"));
+    assert!(accepts(
+        "crossing 833333333 2500000000 2500000000 2500000000"
+    ));
+    // Above the limit, by one and by 2^32.
+    assert!(!accepts("crossing 833333333 2500000001 1 1"));
+    assert!(!accepts("crossing 1 3 2500000001 2500000000"));
+    assert!(!accepts("crossing 1 3 2500000000 2500000001"));
+    assert!(!accepts("crossing 4294967297 4294967299 1 1"));
+    assert!(!accepts(
+        "crossing 1 3 18446744073709551615 18446744073709551615"
+    ));
+    // Exchanged, as pairs and as prices, and the same pair twice.
+    assert!(!accepts("crossing 1 1 1 3"));
+    assert!(!accepts("crossing 3 1 1 1"));
+    assert!(!accepts("crossing 1 3 1 3"));
+    assert!(!accepts("crossing 1 1 1 1"));
+    // Where they cost the same.
+    assert!(!accepts("crossing 1 4 1 1"));
+    assert!(!accepts("crossing 625000000 2500000000 1 1"));
+    assert!(!accepts("crossing 1 100 1 1"));
+    assert!(!accepts("crossing 1 3 0 0"));
+    assert!(!accepts("crossing 1 3 0 1"));
+    assert!(!accepts("crossing 1 3 1 0"));
+    // Other verdicts and other words.
+    assert!(!accepts("first 1 1"));
+    assert!(!accepts("second 1 3"));
+    assert!(!accepts("equal"));
+    assert!(!accepts("crossing 1 3"));
+    assert!(!accepts("crossing 1 3 1 1 1 1"));
+    assert!(!accepts("crossing 1 03 1 1"));
+    assert!(!accepts("crossing 1 3 1 1 "));
+}
+
+/// Tables of nearly 100,000 obligors: their costs differ by little.
+#[test]
+fn pairs_on_shares_are_judged_to_the_last_unit() {
+    // A single grade costs u or v, whatever its totals.
+    let one = |pairs: &str| shares_accept([&[(100_000, 49_999)], &[(99_999, 50_000)]], pairs);
+    assert!(one("equal"));
+    assert!(!one("first 2500000000 2500000000"));
+    // 49,999 of 50,000 defaults caught, or all; no survivor turned away. They cost u/50,000 or v,
+    // and nothing.
+    let caught = [&[(50_001, 1), (49_999, 49_999)][..], &[(1, 0), (1, 1)]];
+    let accepts = |pairs: &str| shares_accept(caught, pairs);
+    assert!(accepts("second 1 1"));
+    assert!(accepts("second 1 2500000000"));
+    assert!(accepts("second 2500000000 1"));
+    assert!(accepts("second 2500000000 2500000000"));
+    assert!(!accepts("second 2500000001 1"));
+    assert!(!accepts("second 1 2500000001"));
+    assert!(!accepts("second 0 2500000000"));
+    assert!(!accepts("second 2500000000 0"));
+    assert!(!accepts("first 1 1"));
+    // Slopes of 49,980²/(49,980² - 9) and (49,980² - 16)/(49,980² - 25), the flat one's own
+    // break-even prices: 1 more or less, and the costs are the same or the other way round.
+    let corners = [
+        &[(6, 3), (99_957, 49_980)][..],
+        &[(18, 9), (99_951, 49_976)],
+    ];
+    let accepts = |pairs: &str| shares_accept(corners, pairs);
+    assert!(accepts("crossing 2498000391 2498000400 1 1"));
+    assert!(!accepts("crossing 2498000392 2498000400 1 1"));
+    assert!(!accepts("crossing 2498000391 2498000401 1 1"));
+    assert!(!accepts("crossing 2498000390 2498000400 1 1"));
+    assert!(!accepts("crossing 2498000375 2498000384 1 1"));
+}
+
+/// The first comparison keeps its limit and its name.
+#[test]
+fn the_two_comparisons_are_judged_apart() {
+    let tables = [&[(5, 2), (1, 1)][..], &[(2, 0), (4, 3)]];
+    let accepts = |first: &str, second: &str| {
+        let script = script_of(tables, &[Call::Compare, Call::CompareShares]);
+        judge(&script, &format!("load ok\nload ok\n{first}\n{second}\n")).is_ok()
+    };
+    let (low, high) = ("crossing 1 1 1 3", "crossing 1000001 1000001 1 3");
+    let compare = |pairs: &str| format!("compare ok {pairs}");
+    let shares = |pairs: &str| format!("compare_shares ok {pairs}");
+    assert!(accepts(&compare(low), &shares(low)));
+    assert!(accepts(&compare(low), &shares(high)));
+    assert!(!accepts(&compare(high), &shares(low)));
+    assert!(!accepts(&shares(low), &compare(low)));
+    assert!(!accepts(&compare(low), &compare(low)));
+    assert!(!accepts(&compare(low), "compare_shares refused 35"));
 }
 
 #[test]
@@ -207,7 +307,7 @@ fn pietras() -> Vec<String> {
 fn a_run_exercises_everything() {
     let table = Tally::of_run(1, 20_000).markdown();
     let expected = ["crossing", "equal", "first", "second"].map(String::from);
-    let refusals = (1..=4).chain(6..=13).chain(21..=25).chain(31..=34);
+    let refusals = (1..=4).chain(6..=13).chain(21..=25).chain(31..=35);
     let refusals = refusals.map(|number| number.to_string());
     for row in expected.into_iter().chain(refusals).chain(pietras()) {
         let start = format!("| {row} | ");

@@ -1,4 +1,4 @@
-"""Document 01's definitions, computed plainly for the tests that hold answers to them; of document 02, R-1, R-4 and R-5.
+"""Document 01's definitions, computed plainly for the tests that hold answers to them; of document 02, R-1, R-4, R-5 and R-6.
 
 A grade is its obligors, its defaults and its announced rate in ppm. Everything is exact: whole numbers and fractions.
 """
@@ -46,15 +46,17 @@ def cost(grades: Grades, cutoff: int, u: int, v: int) -> int:
     return u * sum(d for _, d, _ in accepted) + v * sum(n - d for n, d, _ in away)
 
 
-def cheapest(grades: Grades, u: int, v: int) -> tuple[int, int]:
-    """The smallest cutoff that costs least, and what it costs."""
-    costs = [cost(grades, cutoff, u, v) for cutoff in range(len(grades) + 1)]
+def share_cost(grades: Grades, cutoff: int, u: int, v: int) -> Fraction:
+    """R-6: "a cutoff costs u(D − y)/D + vx/S". There must be defaults and survivors."""
+    _, defaults, survivors = totals(grades)
+    accepted, away = grades[:len(grades) - cutoff], grades[len(grades) - cutoff:]
+    return u * Fraction(sum(d for _, d, _ in accepted), defaults) + v * Fraction(sum(n - d for n, d, _ in away), survivors)
+
+
+def cheapest(grades: Grades, u: int, v: int, shares: bool = False) -> tuple[int, int | Fraction]:
+    """The smallest cutoff that costs least, by counts or on shares, and what it costs."""
+    costs = [(share_cost if shares else cost)(grades, cutoff, u, v) for cutoff in range(len(grades) + 1)]
     return costs.index(min(costs)), min(costs)
-
-
-def cheaper(first: Grades, second: Grades, u: int, v: int) -> str:
-    a, b = cheapest(first, u, v)[1], cheapest(second, u, v)[1]
-    return 'first' if a < b else 'second' if b < a else 'both'
 
 
 # Pooling

@@ -5,7 +5,7 @@ from fractions import Fraction
 from typing import Any, Sequence
 
 from scales import Scale
-from definitions import Grades, brier, cheaper, cheapest, decimal, measures, measures_refusal, pooled, repeats, totals
+from definitions import Grades, brier, cheapest, decimal, measures, measures_refusal, pooled, repeats, totals
 from test_ranges import expected as ranges_by_definition
 
 
@@ -44,13 +44,22 @@ def price_data(price: Sequence[int]) -> dict[str, int]:
     return {'u': price[0], 'v': price[1]}
 
 
-def costs_data(first: Scale, second: Scale, price: Sequence[int]) -> dict[str, Any]:
-    found = {name: dict(zip(('cutoff', 'cost'), cheapest(scale.grades, *price))) for name, scale in (('first', first), ('second', second))}
-    return {**price_data(price), **found, 'cheaper': cheaper(first.grades, second.grades, *price)}
+def share_cost_data(cost: Fraction, grades: Grades) -> dict[str, Any]:
+    """A cost on shares, over DS."""
+    _, defaults, survivors = totals(grades)
+    return fraction_data(int(cost * defaults * survivors), defaults * survivors)
 
 
-def ranges_data(first: Scale, second: Scale) -> list[dict[str, Any]]:
-    found = ranges_by_definition(*([(n, d) for n, d, _ in scale.grades] for scale in (first, second)))
+def costs_data(first: Scale, second: Scale, price: Sequence[int], shares: bool = False) -> dict[str, Any]:
+    (one, cost), (other, second_cost) = (cheapest(scale.grades, *price, shares) for scale in (first, second))
+    cheaper = 'first' if cost < second_cost else 'second' if second_cost < cost else 'both'
+    if shares:
+        cost, second_cost = share_cost_data(cost, first.grades), share_cost_data(second_cost, second.grades)
+    return {**price_data(price), 'first': {'cutoff': one, 'cost': cost}, 'second': {'cutoff': other, 'cost': second_cost}, 'cheaper': cheaper}
+
+
+def ranges_data(first: Scale, second: Scale, shares: bool = False) -> list[dict[str, Any]]:
+    found = ranges_by_definition(*([(n, d) for n, d, _ in scale.grades] for scale in (first, second)), shares)
     return [{'from': price_data(each.start), 'to': price_data(each.end), 'includes_from': each.includes_start,
              'includes_to': each.includes_end, 'cheaper': each.cheaper} for each in found]
 
@@ -61,12 +70,25 @@ def verdict_of(ranges: Sequence[dict]) -> str:
     return 'crossing' if {'first', 'second'} <= found else 'first' if 'first' in found else 'second' if 'second' in found else 'equal'
 
 
-def compare_data(first: Scale, second: Scale, prices: Sequence[tuple], separating: Sequence[tuple]) -> dict[str, Any]:
+def about_costs(first: Scale, second: Scale, shares: bool) -> list[str]:
+    """The lines on what a cutoff costs."""
+    cutoffs = 'Cutoff g turns away the g worst grades. A scale costs what its cheapest cutoff costs; at 0:1 and at 1:0 that is nothing.'
+    if not shares:
+        return ['Prices are u for each default that a cutoff misses and v for each survivor that it turns away; only their ratio u:v matters.',
+                cutoffs]
+    (_, d1, s1), (_, d2, s2) = totals(first.grades), totals(second.grades)
+    return ["A cutoff costs u times the share of its book's defaults that it misses plus v times the share of its book's survivors that it "
+            'turns away.', 'Only the ratio u:v matters. Prices of p for each default and q for each survivor are u:v = '
+            f'{d1}p:{s1}q in the book of {first.name}, {d2}p:{s2}q in that of {second.name}.', cutoffs]
+
+
+def compare_data(first: Scale, second: Scale, prices: Sequence[tuple], separating: Sequence[tuple], shares: bool) -> dict[str, Any]:
     """The whole answer save the sentence. The separating prices are free, so that they are taken from the answer."""
-    ranges = ranges_data(first, second)
-    return {'command': 'compare', 'first': rater_data(first), 'second': rater_data(second), 'verdict': verdict_of(ranges), 'ranges': ranges,
-            'separating': [costs_data(first, second, price) for price in separating],
-            'prices': [costs_data(first, second, price) for price in prices],
+    ranges = ranges_data(first, second, shares)
+    return {'command': 'compare', 'first': rater_data(first), 'second': rater_data(second), 'shares': shares,
+            'verdict': verdict_of(ranges), 'ranges': ranges,
+            'separating': [costs_data(first, second, price, shares) for price in separating],
+            'prices': [costs_data(first, second, price, shares) for price in prices],
             'measures': {'first': measures_data(first.grades), 'second': measures_data(second.grades)}}
 
 

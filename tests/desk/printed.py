@@ -1,8 +1,11 @@
 """Reads what `desk compare` and `desk show` print back into the figures that their JSON has."""
 from __future__ import annotations
 
+from fractions import Fraction
 from typing import Any, Sequence
 import re
+
+from definitions import decimal
 
 CURVES = ('gini', 'roc', 'cap', 'pietra')
 LABELS = ['Gini', 'ROC area', 'CAP area', 'Pietra', 'at cutoff', 'Brier']
@@ -30,8 +33,8 @@ def summary(line: str) -> dict[str, Any]:
 def fraction(cell: str) -> dict[str, Any] | None:
     if cell.startswith('refused '):
         return None
-    decimal, numerator, denominator = FRACTION.fullmatch(cell).groups()
-    return {'numerator': int(numerator), 'denominator': int(denominator), 'decimal': decimal}
+    rounded, numerator, denominator = FRACTION.fullmatch(cell).groups()
+    return {'numerator': int(numerator), 'denominator': int(denominator), 'decimal': rounded}
 
 
 def measures(lines: Sequence[str], count: int) -> list[dict[str, Any]]:
@@ -49,8 +52,11 @@ def measures(lines: Sequence[str], count: int) -> list[dict[str, Any]]:
 
 # compare
 
-def price(word: str) -> dict[str, int]:
-    u, v = word.split(':')
+def price(words: str) -> dict[str, int]:
+    """Prices as u:v; on shares behind the decimal of their ratio, where it has one."""
+    before, u, v = re.fullmatch(r'(?:(\d+\.\d{6}) \()?(\d+):(\d+)\)?', words).groups()
+    if before and before != decimal(Fraction(int(u), int(v)), 6):
+        raise AssertionError(f'{before} is not {u}:{v}')
     return {'u': int(u), 'v': int(v)}
 
 
@@ -73,9 +79,9 @@ def who(cell: str, names: Sequence[str]) -> str:
 
 
 def cutoff(cell: str) -> dict[str, Any]:
-    """A cutoff with its cost, and the label of the best grade that it turns away."""
-    number, _, label, amount = re.fullmatch(r'cutoff (\d+)( \(from (.*)\))?, cost (\d+)', cell).groups()
-    return {'cutoff': int(number), 'cost': int(amount), 'label': label}
+    """A cutoff with its cost, a fraction on shares, and the label of the best grade that it turns away."""
+    number, _, label, amount = re.fullmatch(r'cutoff (\d+)( \(from (.*)\))?, cost (.*)', cell).groups()
+    return {'cutoff': int(number), 'cost': int(amount) if amount.isdigit() else fraction(amount), 'label': label}
 
 
 def compared(text: str) -> dict[str, Any]:
@@ -85,7 +91,7 @@ def compared(text: str) -> dict[str, Any]:
     names = [first['name'], second['name']]
     tables = {cells(part[0])[0]: [cells(line) for line in part[1:]] for part in parts[3:-1]}
     costs = tables.get('prices u:v', [])
-    return {'first': first, 'second': second, 'sentence': '\n'.join(parts[1]),
+    return {'first': first, 'second': second, 'sentence': '\n'.join(parts[1]), 'about_costs': parts[2],
             'ranges': [{**price_range(words), 'cheaper': who(cheaper, names)} for words, cheaper in tables.get('price ratio u:v', [])],
             'costs': [{**price(at), 'first': cutoff(a), 'second': cutoff(b), 'cheaper': who(cheaper, names)}
                       for at, a, b, cheaper in costs],

@@ -39,9 +39,9 @@ def rater_of(path: str, number: int) -> Scale:
     return Scale(f'rater {number}', path, number, counts, by(counts, table(book, number)))
 
 
-def named_example(name: str, portfolio_rater: int, counts: str, labels: str) -> Scale:
-    """An example in CSV that has a name and names of grades: the same table as a rater of portfolio.book, by what it counts."""
-    rows = by(counts, rater_of(example('portfolio.book'), portfolio_rater).grades)
+def named_example(name: str, book: str, rater: int, counts: str, labels: str) -> Scale:
+    """An example in CSV that has a name and names of grades: the same table as a rater of an example book, by what it counts."""
+    rows = by(counts, rater_of(example(book), rater).grades)
     return Scale(name, example(f'{name.lower().replace("-", "")}.csv'), 1, counts, rows, labels.split())
 
 
@@ -50,6 +50,8 @@ def part_of_agencies(name: str, file: str, rater: int, first: int, labels: str) 
     return Scale(name, example(file), 1, 'obligors', rater_of(example('agencies.book'), rater).grades[first - 1:], labels.split())
 
 
-INHOUSE = named_example('In-house', 1, 'obligors', 'A1 A2 B1 B2 C1 C2 D1 D2')
-AGENCY = named_example('Agency', 3, 'survivors', 'Aa A Baa Ba B Caa')
+INHOUSE = named_example('In-house', 'portfolio.book', 1, 'obligors', 'A1 A2 B1 B2 C1 C2 D1 D2')
+AGENCY = named_example('Agency', 'portfolio.book', 3, 'survivors', 'Aa A Baa Ba B Caa')
+HARBOUR = named_example('Harbour', 'lenders.book', 1, 'obligors', 'H1 H2 H3 H4 H5 H6')
+VALLEY = named_example('Valley', 'lenders.book', 2, 'survivors', 'V1 V2 V3 V4 V5 V6 V7')
 FITCH_CCC = part_of_agencies('Fitch from CCC+ down', 'fitch_ccc.csv', 3, 17, 'CCC+ CCC CCC- CC C')

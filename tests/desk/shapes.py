@@ -7,8 +7,8 @@ import re
 from common import read
 
 PAGE = read('docs', 'COMMAND.md').decode()
-PLAIN = {'text': str, 'number': int, 'boolean': bool, 'float': float}
-EVERY, OR_NULL, LIST_OF = 'every answer', ' or null', 'list of '
+PLAIN = {'text': str, 'number': int, 'boolean': bool, 'float': float, 'null': type(None)}
+EVERY, OR, LIST_OF = 'every answer', ' or ', 'list of '
 
 
 class Key(NamedTuple):
@@ -36,7 +36,7 @@ def kinds_of_questions(page: str) -> set[str]:
 
 
 class Shapes:
-    """The page's shapes, and what was met of them: each shape, and of its keys null, a value, a list with something in it."""
+    """The page's shapes, and what was met of them: each shape, and of its keys each of several types, a list with something in it."""
 
     def __init__(self, page: str = PAGE):
         self.shapes, self.questions, self.met = shapes_of(page), kinds_of_questions(page), set()
@@ -63,10 +63,10 @@ class Shapes:
 
     def check_type(self, value: Any, kind: str, where: str) -> None:
         """That a value has a type in the page's words; `where` is its shape and key."""
-        if kind.endswith(OR_NULL):
-            self.met.add((where, 'null' if value is None else 'value'))
-            if value is not None:
-                self.check_type(value, kind[:-len(OR_NULL)], where)
+        if OR in kind:
+            met = next((each for each in kind.split(OR) if self.may_be(value, each)), None)
+            self.met.add((where, met))
+            self.check_type(value, met or kind.split(OR)[0], where)
         elif kind in PLAIN:
             if type(value) is not PLAIN[kind]:
                 raise Misfit(f'{where}: {value!r} is no {kind}')
@@ -79,12 +79,16 @@ class Shapes:
         else:
             self.check_keys(value, kind)
 
+    def may_be(self, value: Any, kind: str) -> bool:
+        """Whether a value is of this one of several types by its look: null, plain or with keys."""
+        return type(value) is PLAIN[kind] if kind in PLAIN else isinstance(value, dict)
+
     def unmet(self) -> set:
-        """Shapes, keys with and without null, and lists, that no answer had."""
+        """Shapes, keys of each of several types, and lists, that no answer had."""
         expected: set = set(self.shapes)
         for shape, keys in self.shapes.items():
             for name, key in keys.items():
                 where = f'{shape}.{name}'
-                expected |= {(where, 'null'), (where, 'value')} if key.type.endswith(OR_NULL) else set()
+                expected |= {(where, kind) for kind in key.type.split(OR)} if OR in key.type else set()
                 expected |= {(where, 'list')} if key.type.startswith(LIST_OF) else set()
         return expected - self.met

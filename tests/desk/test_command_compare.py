@@ -17,7 +17,7 @@ from running import EXAMPLES, Case, book_of, content_of, csv_text, example, run 
 from common import in_order  # noqa: E402
 from books import described  # noqa: E402
 from definitions import totals  # noqa: E402
-from expected import about_measures, compare_data  # noqa: E402
+from expected import about_costs, about_measures, compare_data  # noqa: E402
 from scales import AGENCY, INHOUSE, Scale, by, rater_of  # noqa: E402
 from test_ranges import pair  # noqa: E402
 import printed  # noqa: E402
@@ -26,16 +26,17 @@ SENTENCES = {'equal': '{} and {} are equal: both cost the same at all prices.',
              'first': '{} is better than {}: it costs more at no prices, and less at some.',
              'second': '{1} is better than {0}: it costs more at no prices, and less at some.',
              'crossing': '{} and {} cross: neither is better, each costs less than the other at some prices.'}
+ON_SHARES = " Costs go by shares of each book's own defaults and survivors."
 
 
 class Comparing(Case):
     def compared(self, first: Scale, second: Scale, *words: str) -> dict:
-        """What is answered as JSON, seen to be what the definitions say and what is printed as text. The words end in the prices."""
-        data, text = self.answered('compare', *words, '--json').data(), self.answered('compare', *words)
+        """What is answered as JSON, seen to be what the definitions say and what is printed as text."""
+        data, text, shares = self.answered('compare', *words, '--json').data(), self.answered('compare', *words), '--shares' in words
         prices = [tuple(map(int, word.split(':'))) for option, word in zip(words, words[1:]) if option == '--prices']
         separating = [(costs['u'], costs['v']) for costs in data['separating']]
-        expected = compare_data(first, second, prices, separating)
-        sentence = SENTENCES[expected['verdict']].format(first.name, second.name)
+        expected = compare_data(first, second, prices, separating, shares)
+        sentence = SENTENCES[expected['verdict']].format(first.name, second.name) + (ON_SHARES if shares else '')
         self.assertEqual(data, {**expected, 'sentence': sentence, 'refusals': [], 'questions': data['questions']})
         self.see_separating(data)
         self.see_text(first, second, printed.compared(text.out), data)
@@ -55,6 +56,7 @@ class Comparing(Case):
         ranges = [each for each in data['ranges'] if each['from'] != each['to'] or each['from']['u'] * each['from']['v']]
         self.assertEqual(text['ranges'], [] if data['verdict'] == 'equal' else ranges)
         self.assertEqual(text['headings'], [first.name, second.name])
+        self.assertEqual(text['about_costs'], about_costs(first, second, data['shares']))
         self.assertEqual(text['about'], about_measures(*data['measures'].values()))
         costs = data['separating'] + data['prices']
         for found in costs:
@@ -131,7 +133,7 @@ class Refused(Case):
     def test_prices_above_the_limit(self) -> None:
         path = example('h.book')
         self.answered('compare', path, '--prices', '1000000:1000000')
-        for prices in ('1000001:1', '1:1000001', '999999999999999999:1'):
+        for prices in ('1000001:1', '1:1000001', '9999999999999999999:1'):
             line, = self.refused(12, 'compare', path, '--prices', '1:1', '--prices', prices)
             self.assertIn(prices, line)
 
@@ -226,7 +228,7 @@ class WhichRaters(Case):
         self.assertEqual(self.raters(path, '1', 'Y')[0], ('a.csv', 1, 'X'))
 
     def test_prices_that_are_none(self) -> None:
-        for word in ('50', '50:', ':1', '50:1:1', '-1:1', '1.5:1', '50/1', 'a:b', '1' * 19 + ':1', '\u0663:1', ''):
+        for word in ('50', '50:', ':1', '50:1:1', '-1:1', '1.5:1', '50/1', 'a:b', '1' * 20 + ':1', '\u0663:1', ''):
             self.assertIn('two whole numbers such as 50:1', self.wrong('compare', example('h.book'), f'--prices={word}'), word)
 
     def test_standard_input_twice(self) -> None:

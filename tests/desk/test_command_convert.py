@@ -15,7 +15,7 @@ from running import book_of, content_of, csv_text, example, examples  # noqa: E4
 from common import in_order  # noqa: E402
 from converting import BOOK_K, OBLIGORS, Converting  # noqa: E402
 from expected import rater_data  # noqa: E402
-from scales import AGENCY, FITCH_CCC, INHOUSE, Scale, rater_of  # noqa: E402
+from scales import AGENCY, FITCH_CCC, HARBOUR, INHOUSE, VALLEY, Scale, rater_of  # noqa: E402
 import printed  # noqa: E402
 
 
@@ -28,7 +28,7 @@ def with_bytes(content: bytes, **changes: int) -> bytes:
 
 
 class Examples(Converting):
-    NAMED = ('agency.csv', 'fitch_ccc.csv', 'inhouse.csv', 'swapped.csv')  # with names, which no book holds
+    NAMED = ('agency.csv', 'fitch_ccc.csv', 'harbour.csv', 'inhouse.csv', 'swapped.csv', 'valley.csv')  # with names, which no book holds
     FAULTY = ('refusals.book',)  # with tables that load refuses
 
     def test_every_book_whose_raters_all_load_has_its_csv(self) -> None:
@@ -41,9 +41,9 @@ class Examples(Converting):
             self.assertEqual(self.packed(text), book)
             self.assertEqual(self.unpacked(book).encode(), text)
 
-    def test_named_ones_pack_to_raters_of_portfolio(self) -> None:
-        self.assertEqual(self.packed(*(content_of(scale.file) for scale in (INHOUSE, AGENCY))),
-                         book_of([(scale.counts, scale.rows) for scale in (INHOUSE, AGENCY)]))
+    def test_named_ones_pack_to_raters_of_portfolio_and_lenders(self) -> None:
+        for scales in ((INHOUSE, AGENCY), (HARBOUR, VALLEY)):
+            self.assertEqual(self.packed(*(content_of(scale.file) for scale in scales)), book_of([(scale.counts, scale.rows) for scale in scales]))
 
     def test_a_part_of_agencies_packs_to_its_rows(self) -> None:
         self.assertEqual(self.packed(content_of(FITCH_CCC.file)), book_of([(FITCH_CCC.counts, FITCH_CCC.rows)]))

@@ -100,11 +100,12 @@ class Books(Damaged):
             self.assertEqual((ran.status, ran.out, self.first_number(ran)), (1, '', refusal), book)
 
     def of_two(self, book: bytes, path: str, raters: tuple[int, int]) -> None:
-        """`compare` of two: the first that load refuses, then what compare refuses."""
-        ran = self.asked('compare', path, *map(str, raters))
+        """`compare` of two, on shares every other time: the first that load refuses, then what compare refuses."""
+        shares = len(book) % 8 < 4
+        ran = self.asked('compare', path, *map(str, raters), *['--shares'] * shares)
         refusal = next(filter(None, (load_refusal(book, rater) for rater in raters)), None)
         if refusal is None:
-            self.assertIn(self.first_number(ran), (None, 23, 24, 25), book)
+            self.assertIn(self.first_number(ran), (None, 23, 24, 35 if shares else 25), book)
         else:
             self.assertEqual((ran.status, ran.out, self.first_number(ran)), (1, '', refusal), book)
 
@@ -151,7 +152,8 @@ class Texts(Damaged):
         """Gives a file to one command, in one of the ways of each. What is packed loads and comes back; what is refused leaves no file."""
         path = self.put('a.csv', content)
         words = source.choice((('show', path), ('show', path, '1'), ('show', path, 'In-house'), ('compare', path), ('compare', path, path),
-                               ('compare', path, '1', '2', '--prices', '3:1'), ('unpack', path), ('pack',), ('pack',)))
+                               ('compare', path, '1', '2', '--prices', '3:1'), ('compare', path, '--shares', '--prices', '3:1'),
+                               ('unpack', path), ('pack',), ('pack',)))
         if words != ('pack',):
             return self.asked(*words).status
         book = self.path('out.book')

@@ -35,7 +35,8 @@ class Answers(Case):
         asked = [('compare', example('portfolio.book'), '1', str(b), '--prices', '50:1') for b in (2, 3, 4)]
         asked += [('compare', example('portfolio.book'), '2', '1'), ('compare', example('inhouse.csv'), example('agency.csv')),
                   ('compare', example('refusals.book'), '1', '4'), ('compare', upside_down, upside_down), ('compare', wrong_column),
-                  ('compare', none, none)]
+                  ('compare', none, none), ('compare', example('lenders.book'), '1', '2', '--shares', '--prices', '7:8'),
+                  ('compare', example('lenders.book'), '3', '2', '--shares'), ('compare', wrong_column, '--shares')]
         asked += [('show', book) for book in books] + [('show', example('refusals.book'), str(number)) for number in (1, 2, 3, 5)]
         asked += [('show', example('agencies.book'), '1'), ('show', example('agencies.book'), '1', '--repeated'),
                   ('show', upside_down), ('show', total), ('show', example('inhouse.csv')), ('show', none), ('unpack', example('k.book')),
@@ -68,12 +69,19 @@ class Answers(Case):
         """What the test itself has to see: a key too many or too few, a value of another type, one that is not listed."""
         sound = self.answered('compare', example('h.book'), '--json').data()
         Shapes().check(sound)
+        shared = self.answered('compare', example('h.book'), '--shares', '--json').data()
+        Shapes().check(shared)
         for change in (lambda each: each.pop('ranges'), lambda each: each.update(more=1), lambda each: each['first'].update(rater='1'),
                        lambda each: each['first'].update(grades=True), lambda each: each.update(verdict='better'),
                        lambda each: each['measures']['first'].update(brier=None), lambda each: each['ranges'].append(None),
                        lambda each: each['ranges'][0].update(includes_to=1), lambda each: each['measures']['first']['roc'].pop('decimal')):
             changed = copy.deepcopy(sound)
             change(changed)
+            with self.assertRaises(Misfit):
+                Shapes().check(changed)
+        for cost in ('1.0', 1.0, None, True, {**shared['separating'][0]['first']['cost'], 'numerator': None}, {}):
+            changed = copy.deepcopy(shared)
+            changed['separating'][0]['first']['cost'] = cost
             with self.assertRaises(Misfit):
                 Shapes().check(changed)
 

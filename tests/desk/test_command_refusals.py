@@ -31,6 +31,7 @@ ROWS = {8: [(5, 1, 0), (1, 2, 0)], 9: [(0, 0, 0), (0, 0, 0)], 10: [(5, 1, 0), (1
         34: [(5, 1, 7), (1, 0, 6)]}
 FROM_CSV = {3: '\n', 6: OBLIGORS}
 TOGETHER = {23: ([(2, 0, 0)], [(2, 1, 0)]), 24: ([(2, 1, 0)], [(2, 2, 0)]), 25: ([(2, 1, 0)], [(3, 1, 0)])}
+ON_SHARES = {23: TOGETHER[23], 24: TOGETHER[24], 35: ([(2, 1, 0)], [(100_001, 1, 0)])}
 
 
 class Numbers(Converting):
@@ -86,6 +87,10 @@ class Numbers(Converting):
             path = self.put('a.book', book_of([('obligors', each) for each in rows]))
             self.seen(number, 'compare', path)
             self.seen(number, 'compare', path, '2', '1')
+        for number, rows in ON_SHARES.items():
+            path = self.put('a.book', book_of([('obligors', each) for each in rows]))
+            self.seen(number, 'compare', path, '--shares')
+            self.seen(number, 'compare', '--shares', path, '2', '1')
 
     def test_of_measures(self) -> None:
         for number, rows in ((23, [(2, 0, 0)]), (24, [(2, 2, 0)])):
@@ -93,7 +98,7 @@ class Numbers(Converting):
             self.assertIn(f'desk: refused {number}: {WORDS[number]}; the measures of a\n', ask('show', path).err)
 
     def test_every_number_is_tried(self) -> None:
-        self.assertEqual(sorted({*FROM_A_BOOK, *ROWS, *FROM_CSV, *TOGETHER, 4, 12, *UNREACHABLE}), sorted(WORDS))
+        self.assertEqual(sorted({*FROM_A_BOOK, *ROWS, *FROM_CSV, *TOGETHER, *ON_SHARES, 4, 12, *UNREACHABLE}), sorted(WORDS))
 
 
 class Words(Case):

@@ -19,7 +19,7 @@ from common import in_order  # noqa: E402
 from books import described  # noqa: E402
 from definitions import decimal, measures_refusal, spread  # noqa: E402
 from expected import about_empty, about_measures, about_sign, grades_data, line_data, measures_data, rater_data  # noqa: E402
-from scales import AGENCY, FITCH_CCC, INHOUSE, Scale, by, kinds_in, rater_of  # noqa: E402
+from scales import AGENCY, FITCH_CCC, HARBOUR, INHOUSE, VALLEY, Scale, by, kinds_in, rater_of  # noqa: E402
 import printed  # noqa: E402
 
 GRADES_HEADING = ['grade', 'obligors', 'survivors', 'defaults', 'observed', 'pooled', 'announced', 'band']
@@ -98,7 +98,7 @@ class Examples(Showing):
         self.assertGreater(seen, 10)
 
     def test_names_of_grades(self) -> None:
-        for scale in (INHOUSE, AGENCY, FITCH_CCC):
+        for scale in (INHOUSE, AGENCY, FITCH_CCC, HARBOUR, VALLEY):
             self.shown(scale)
             self.shown(scale, '1')
             self.shown(scale, scale.name)

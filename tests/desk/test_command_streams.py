@@ -19,9 +19,11 @@ from converting import OBLIGORS  # noqa: E402
 from desk.command.main import command_line  # noqa: E402
 
 FULL = os.strerror(errno.ENOSPC)
-ANSWERED = (('compare', example('h.book')), ('show', example('k.book')), ('show', example('portfolio.book')), ('unpack', example('k.book')),
-            ('refusals',), ('refusals', '25'), ('--help',), ('--version',), ('compare', '--help'))
-REFUSED = (('compare', example('refusals.book'), '1', '4'), ('show', example('refusals.book'), '5'), ('unpack', example('refusals.book')))
+ANSWERED = (('compare', example('h.book')), ('compare', example('lenders.book'), '1', '2', '--shares'), ('show', example('k.book')),
+            ('show', example('portfolio.book')), ('unpack', example('k.book')), ('refusals',), ('refusals', '25'), ('--help',),
+            ('--version',), ('compare', '--help'))
+REFUSED = (('compare', example('refusals.book'), '1', '4'), ('compare', example('lenders.book'), '1', '3', '--shares'),
+           ('show', example('refusals.book'), '5'), ('unpack', example('refusals.book')))
 PARTLY = (('show', example('refusals.book')), ('show', example('refusals.book'), '2'))  # something is refused, the rest answered
 WRONG = ((), ('compare',), ('turn', 'a'), ('show', example('none.book')), ('compare', example('k.book')), ('refusals', '14'),
          ('show', 'a', 'b', 'c'), ('pack', example('k.csv')), ('compare', example('h.book'), '--prices', 'x'),

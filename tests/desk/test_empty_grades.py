@@ -21,7 +21,7 @@ from scales import FITCH_CCC, by, rater_of  # noqa: E402
 from test_ranges import pair  # noqa: E402
 import printed  # noqa: E402
 from desk import Desk, Table, price_ranges, read_book, write_book  # noqa: E402
-from desk.ranges import break_even  # noqa: E402
+from desk.costs import CountCosts  # noqa: E402
 
 EMPTY = (0, 0, 0)
 OF_A_BLOCK = ('block_defaults', 'block_obligors', 'band', 'repeats')
@@ -76,7 +76,7 @@ class Pooling(unittest.TestCase):
         for alone, rows in tables(200, 2):
             found = loaded(alone, rows)
             self.assertEqual(found.pool(1), [block for block, row in zip(found.pool(2), rows) if row[0]])
-            self.assertEqual(break_even(found, 1), break_even(found, 2))
+            self.assertEqual(CountCosts(found, 1).break_even(), CountCosts(found, 2).break_even())
 
     def test_the_worked_way(self) -> None:
         """The next better occupied grade, not the nearest and not the next worse; of the first grades the best occupied one."""

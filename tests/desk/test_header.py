@@ -24,9 +24,9 @@ STRUCTS = {name: getattr(library, 'DeskImage' if name == 'Desk' else name) for n
 TYPES = {'uint8_t': c_uint8, 'uint32_t': c_uint32, 'int64_t': c_int64, 'size_t': c_size_t, 'double': c_double, **STRUCTS}
 # What documents 01 and 02 have each call refuse, in their order.
 REFUSED = {'desk_empty': [], 'desk_load': [1, 21, 2, 3, 4, 31, 32, 6, 7, 32, 33, 8, 10, 34, 9, 11], 'desk_clear': [1, 22],
-           'desk_pool': [1, 22, 13], 'desk_cheapest': [1, 22, 12], 'desk_compare': [22, 23, 24, 25], 'desk_measures': [1, 22, 23, 24],
-           'desk_brier': [1, 22], 'desk_spread': [1, 22], 'desk_write': [22, 13], 'desk_book': [6, 7, 8, 10, 34, 9, 11],
-           'desk_load_rows': [1, 21, 6, 7, 8, 10, 34, 9, 11], 'desk_wrong_cut': []}
+           'desk_pool': [1, 22, 13], 'desk_cheapest': [1, 22, 12], 'desk_compare': [22, 23, 24, 25], 'desk_compare_shares': [22, 23, 24, 35],
+           'desk_measures': [1, 22, 23, 24], 'desk_brier': [1, 22], 'desk_spread': [1, 22], 'desk_write': [22, 13],
+           'desk_book': [6, 7, 8, 10, 34, 9, 11], 'desk_load_rows': [1, 21, 6, 7, 8, 10, 34, 9, 11], 'desk_wrong_cut': []}
 
 
 def fields(body: str) -> list[tuple[str, type]]:
@@ -92,6 +92,8 @@ class Header(unittest.TestCase):
         most = ('obligors', [(1, 0, 0)] * table.MAX_GRADES)
         self.assertEqual(NUMBERS, {'DESK_VERSION': int(read('VERSION')), 'DESK_GRADES': table.MAX_GRADES,
                                    'DESK_MAX_OBLIGORS': table.MAX_OBLIGORS, 'DESK_MAX_PRICE': 1_000_000,
+                                   'DESK_MAX_OBLIGORS_ON_SHARES': table.MAX_OBLIGORS_ON_SHARES,
+                                   'DESK_MAX_PRICE_ON_SHARES': 2_500_000_000,
                                    'DESK_POOL_NUMBERS': library.POOL_NUMBERS, 'DESK_BOOK_BYTES': library.BOOK_BYTES,
                                    'DESK_TABLE_BYTES': len(book.encode([most]))})
         self.assertEqual(len(book.encode([most, most])), library.BOOK_BYTES)

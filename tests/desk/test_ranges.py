@@ -18,7 +18,8 @@ import unittest
 sys.dont_write_bytecode = True
 from common import Scale, loaded  # noqa: E402
 from desk import Cutoff, Desk, Kind, Price, Refused, Verdict  # noqa: E402
-from desk.ranges import BOTH, FIRST, HIGHEST, LOWEST, SECOND, PriceRange, break_even, price_ranges  # noqa: E402
+from desk.costs import CountCosts  # noqa: E402
+from desk.ranges import BOTH, FIRST, HIGHEST, LOWEST, SECOND, PriceRange, price_ranges  # noqa: E402
 
 Cutoffs = List[Tuple[int, int]]  # defaults missed and survivors turned away by cutoffs 0, 1, ..
 Totals = Tuple[int, int]  # D and S
@@ -33,6 +34,13 @@ H = [(5, 2), (1, 1)], [(2, 0), (4, 3)]
 
 def cutoffs(scale: Scale) -> Cutoffs:
     return [(sum(d for _, d in scale[:accepted]), sum(n - d for n, d in scale[accepted:])) for accepted in range(len(scale), -1, -1)]
+
+
+def on_shares(first: Scale, second: Scale) -> tuple[Cutoffs, Cutoffs]:
+    """The same of two scales as shares of each one's own D and S; times the D and S of both, so that they are whole numbers."""
+    (d1, s1), (d2, s2) = ((sum(d for _, d in scale), sum(n - d for n, d in scale)) for scale in (first, second))
+    return ([(missed * s1 * d2 * s2, away * d1 * d2 * s2) for missed, away in cutoffs(first)],
+            [(missed * s2 * d1 * s1, away * d2 * d1 * s1) for missed, away in cutoffs(second)])
 
 
 def cheapest(found: Cutoffs, u: int, v: int) -> int:
@@ -70,9 +78,9 @@ def price_of(share: Fraction) -> Price:
     return Price(share.numerator, share.denominator - share.numerator)
 
 
-def expected(first: Scale, second: Scale) -> list[PriceRange]:
+def expected(first: Scale, second: Scale, shares: bool = False) -> list[PriceRange]:
     found: list[PriceRange] = []
-    for start, end, cheaper in outcomes(cutoffs(first), cutoffs(second)):
+    for start, end, cheaper in outcomes(*(on_shares(first, second) if shares else (cutoffs(first), cutoffs(second)))):
         closed = start == end
         if found and found[-1].cheaper == cheaper:
             found[-1] = found[-1]._replace(end=price_of(end), includes_end=closed)
@@ -251,7 +259,8 @@ class Refusals(unittest.TestCase):
 
         class WrongCost(Desk):
             def cheapest(self, place: int, u: int, v: int) -> Cutoff:
-                found, known = super().cheapest(place, u, v), break_even(self, 1) | break_even(self, 2) | {LOWEST, HIGHEST}
+                known = CountCosts(self, 1).break_even() | CountCosts(self, 2).break_even() | {LOWEST, HIGHEST}
+                found = super().cheapest(place, u, v)
                 return found if (u, v) in known else found._replace(cost=found.cost + place)
         for kind in (WrongVerdict, WrongCost):
             with self.assertRaises(AssertionError):

@@ -301,10 +301,11 @@ class Watch(unittest.TestCase):
                 smudge(arguments[argument], at)
                 return answer
             return wrong
-        calls = {'pool': (1,), 'write': (), 'compare': (), 'brier': (2,), 'measures': (2,), 'spread': (1,), 'cheapest': (1, 1, 1)}
+        calls = {'pool': (1,), 'write': (), 'compare': (), 'compare_shares': (), 'brier': (2,), 'measures': (2,), 'spread': (1,),
+                 'cheapest': (1, 1, 1)}
         for name, argument, at in (('pool', 2, 480), ('pool', 2, -1), ('pool', 0, 976), ('pool', 0, -1), ('write', 1, 976), ('write', 3, 8),
-                                   ('write', 3, -8), ('compare', 1, 20), ('brier', 2, 16), ('measures', 2, 88), ('spread', 2, -1),
-                                   ('cheapest', 4, 16)):
+                                   ('write', 3, -8), ('compare', 1, 20), ('compare_shares', 1, 20), ('brier', 2, 16), ('measures', 2, 88),
+                                   ('spread', 2, -1), ('cheapest', 4, 16)):
             self.see(f'desk_{name}', beside(argument, at), lambda desk: getattr(desk, name)(*calls[name]))
 
     def test_a_question_that_changes_the_desk(self) -> None:

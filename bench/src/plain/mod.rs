@@ -7,15 +7,19 @@ mod cutoff;
 mod measures;
 mod pooling;
 mod spread;
+mod verdict;
 
-pub use cutoff::{Cheapest, Verdict};
+pub use cutoff::Cheapest;
 pub use measures::{Fraction, Measures};
 pub use spread::Spread;
+pub use verdict::Verdict;
 
 /// The most grades of a table.
 const GRADES: usize = 40;
 /// The most obligors of a table; also the highest price and the whole in ppm.
 const MILLION: u32 = 1_000_000;
+/// The most obligors of a table that is compared on shares.
+const MOST_ON_SHARES: u32 = 100_000;
 
 /// Document 01's number for a refusal.
 pub type Refusal = u32;
@@ -69,10 +73,19 @@ impl Table<'_> {
         self.obligors.iter().copied().zip(self.defaults.iter().copied())
     }
 
-    /// N and D.
-    fn totals(&self) -> (u32, u32) {
-        (self.obligors.iter().sum(), self.defaults.iter().sum())
+    fn totals(&self) -> Totals {
+        Totals {
+            obligors: self.obligors.iter().sum(),
+            defaults: self.defaults.iter().sum(),
+        }
     }
+}
+
+/// N and D.
+#[derive(Clone, Copy, PartialEq)]
+struct Totals {
+    obligors: u32,
+    defaults: u32,
 }
 
 #[derive(Clone, Copy)]
@@ -137,19 +150,33 @@ impl Desk {
         Ok(cutoff::cheapest(&table, u, v))
     }
 
-    pub fn compare(&self) -> Result<Verdict, Refusal> {
-        let (first, second) = (self.first.table()?, self.second.table()?);
-        let (a, b) = (first.totals(), second.totals());
-        if a.1 == 0 || b.1 == 0 {
+    /// Both tables, each with a default and a survivor, and their totals.
+    fn both(&self) -> Result<([Table<'_>; 2], [Totals; 2]), Refusal> {
+        let tables = [self.first.table()?, self.second.table()?];
+        let totals = tables.map(|table| table.totals());
+        if totals.iter().any(|of| of.defaults == 0) {
             return Err(23);
         }
-        if a.0 == a.1 || b.0 == b.1 {
+        if totals.iter().any(|of| of.defaults == of.obligors) {
             return Err(24);
         }
-        if a != b {
+        Ok((tables, totals))
+    }
+
+    pub fn compare(&self) -> Result<Verdict, Refusal> {
+        let (tables, totals) = self.both()?;
+        if totals[0] != totals[1] {
             return Err(25);
         }
-        Ok(cutoff::judge(&first, &second))
+        Ok(verdict::judge(tables.each_ref()))
+    }
+
+    pub fn compare_shares(&self) -> Result<Verdict, Refusal> {
+        let (tables, totals) = self.both()?;
+        if totals.iter().any(|of| of.obligors > MOST_ON_SHARES) {
+            return Err(35);
+        }
+        Ok(verdict::judge_shares(tables.each_ref(), totals))
     }
 
     pub fn measures(&self, place: u32) -> Result<Measures, Refusal> {

@@ -12,12 +12,12 @@ fn quotient(obligors: u32, defaults: u32) -> f64 {
 }
 
 pub fn spread(table: &Table) -> Spread {
-    let (obligors, defaults) = table.totals();
+    let totals = table.totals();
     let mut blocks = Blocks::NONE;
     blocks.pool(table);
     let quotients = blocks.worst_first().rev().map(|block| quotient(block.obligors, block.defaults));
     Spread {
-        total: quotient(obligors, defaults),
+        total: quotient(totals.obligors, totals.defaults),
         residual: quotients.sum(),
     }
 }

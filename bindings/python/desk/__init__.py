@@ -20,10 +20,13 @@
 
 A table says by name whether its first column counts obligors (the defaulted included) or survivors (the defaulted left out). Columns
 may come from any sequence of whole numbers, those of a data frame among them. A desk has two places; each call is accepted, or raises
-Refused with its number and changes nothing. What the calls answer is proved; this module only hands it on.
+Refused with its number and changes nothing. What the calls answer is proved; this module hands it on, and works out price
+ranges and costs on shares from it. Scales of books of different sizes are compared by `compare_shares`, with costs by shares of each
+book's own defaults and survivors: its prices are of missing all defaults, and of turning away all survivors, of a book.
 """
 from .answers import Cutoff, Kind, Measures, PooledGrade, Price, Spread, Verdict, WrittenFraction
 from .book import read_book, write_book
+from .costs import ShareCosts
 from .desk import Desk
 from .library import LibraryMissing
 from .ranges import PriceRange, price_ranges
@@ -32,5 +35,5 @@ from .table import Grade, Table
 from .version import VERSION
 
 __all__ = ['Cutoff', 'Desk', 'Grade', 'Kind', 'LibraryMissing', 'MEANINGS', 'Measures', 'PooledGrade', 'Price', 'PriceRange',
-           'Refused', 'Spread', 'Table', 'VERSION', 'Verdict', 'WrittenFraction', 'price_ranges', 'read_book', 'write_book']
+           'Refused', 'ShareCosts', 'Spread', 'Table', 'VERSION', 'Verdict', 'WrittenFraction', 'price_ranges', 'read_book', 'write_book']
 __version__ = str(VERSION)

@@ -72,7 +72,7 @@ class Price(NamedTuple):
 class Cutoff(NamedTuple):
     """A cutoff, which turns away so many of the worst grades, and what it costs."""
     cutoff: int
-    cost: int
+    cost: int | WrittenFraction  # a fraction on shares
 
 
 class Measures(NamedTuple):

@@ -26,10 +26,15 @@ def number(value: int, what: str) -> int:
     return whole if 0 <= whole <= LARGEST else LARGEST
 
 
-def price(value: int, what: str) -> int:
-    if index(value, what) < 0:
+def unsigned(value: int, what: str) -> int:
+    whole = index(value, what)
+    if whole < 0:
         raise ValueError(f'{what} is 0 or more, not {value}')
-    return number(value, what)
+    return whole
+
+
+def price(value: int, what: str) -> int:
+    return number(unsigned(value, what), what)
 
 
 def check_lent(memory: Array, item: type, example: str) -> None:
@@ -85,13 +90,22 @@ class Desk:
     # Questions
 
     def compare(self) -> Verdict:
-        """Which scale is at least as good: its cheapest cutoff costs no more, whatever the prices. Refuses 22, 23, 24, 25."""
-        answer = library.DeskVerdict()
-        accept(self._library.desk_compare(byref(self._image), byref(answer)))
-        kind = Kind(answer.kind)
-        first, second = (Price(pair.u, pair.v) for pair in (answer.first_dearer, answer.second_dearer))
-        return Verdict(kind, first if kind in (Kind.SECOND, Kind.CROSSING) else None,
-                       second if kind in (Kind.FIRST, Kind.CROSSING) else None)
+        """Which scale is at least as good: its cheapest cutoff costs no more, whatever the prices. Refuses 22, 23, 24, 25: where D or S
+        differ, compare_shares compares."""
+        return self._verdict('desk_compare')
+
+    def compare_shares(self) -> Verdict:
+        """The same on shares, of scales of any two books: a cutoff costs u times the share of its table's own defaults that it misses, plus v
+        times the share of its own survivors that it turns away. The prices that the verdict carries are at most 2,500,000,000. Where D and
+        S are the same in both places, the verdict is of the kind that compare gives. Refuses 22, 23, 24, 35.
+
+        >>> desk = Desk()
+        >>> desk.load(1, Table(obligors=[4, 2], defaults=[1, 1], announced=[250_000, 500_000]))
+        >>> desk.load(2, Table(obligors=[40, 60], defaults=[10, 40], announced=[250_000, 666_667]))
+        >>> print(desk.compare_shares().sentence('a book of 6', 'one of 100'))
+        one of 100 is better than a book of 6: it costs more at no prices, and less at some.
+        """
+        return self._verdict('desk_compare_shares')
 
     def cheapest(self, place: int, u: int, v: int) -> Cutoff:
         """The cheapest cutoff, of equals the smallest, where a missed default costs u and a survivor turned away v. Refuses 1, 22, 12."""
@@ -175,6 +189,15 @@ class Desk:
         if place not in (1, 2):
             raise Refused(1)
         return self._image.first if place == 1 else self._image.second
+
+    def _verdict(self, function: str) -> Verdict:
+        """What one of the two comparisons answers."""
+        answer = library.DeskVerdict()
+        accept(getattr(self._library, function)(byref(self._image), byref(answer)))
+        kind = Kind(answer.kind)
+        first, second = (Price(pair.u, pair.v) for pair in (answer.first_dearer, answer.second_dearer))
+        return Verdict(kind, first if kind in (Kind.SECOND, Kind.CROSSING) else None,
+                       second if kind in (Kind.FIRST, Kind.CROSSING) else None)
 
     def _asked(self, function: str, place: int, *arguments) -> Structure:
         """What a function writes of a place into its last argument."""

@@ -58,6 +58,7 @@ FUNCTIONS = {
     'desk_pool': ON_A_PLACE + [POINTER(c_uint32), c_size_t],
     'desk_cheapest': ON_A_PLACE + [c_uint32, c_uint32, POINTER(DeskCutoff)],
     'desk_compare': [POINTER(DeskImage), POINTER(DeskVerdict)],
+    'desk_compare_shares': [POINTER(DeskImage), POINTER(DeskVerdict)],
     'desk_measures': ON_A_PLACE + [POINTER(DeskMeasures)],
     'desk_brier': ON_A_PLACE + [POINTER(DeskFraction)],
     'desk_spread': ON_A_PLACE + [POINTER(DeskSpread)],

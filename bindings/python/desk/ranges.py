@@ -1,8 +1,9 @@
-"""At which prices each of two scales is cheaper.
+"""At which prices each of two scales is cheaper, by counts or on shares.
 
 Only the ratio u:v of the prices matters. Each scale keeps its cheapest cutoff between two neighbouring break-even ratios, those at which
 one of its blocks costs the same turned away and accepted. So between neighbouring ones of both scales the difference of their cheapest
-costs is linear, and the library's own costs at these ratios give it everywhere; it is asked again where they are found to be equal.
+costs is linear, and the costs of the library's own cheapest cutoffs at these ratios give it everywhere; it is asked again where they are
+found to be equal.
 """
 from __future__ import annotations
 
@@ -10,9 +11,9 @@ from fractions import Fraction
 from typing import Iterator, NamedTuple
 
 from .answers import Price
+from .costs import HIGHEST, LOWEST, Comparison, compared, standing
 from .desk import Desk
 
-LOWEST, HIGHEST = Price(0, 1), Price(1, 0)  # a missed default costs nothing; a survivor turned away costs nothing
 FIRST, SECOND, BOTH = 'first', 'second', 'both'
 
 
@@ -34,20 +35,15 @@ class PriceRange(NamedTuple):
         return f'{"[" if self.includes_start else "("}{self.start}, {self.end}{"]" if self.includes_end else ")"} {self.cheaper}'
 
 
-def price_ranges(desk: Desk) -> list[PriceRange]:
-    """The ranges of all price ratios, the lowest first, for the tables in the two places. Refuses as compare does."""
-    verdict = desk.compare()
-    ranges = list(_joined(_pieces(desk)))
+def price_ranges(desk: Desk, shares: bool = False) -> list[PriceRange]:
+    """The ranges of all price ratios, the lowest first, for the tables in the two places. Refuses as compare does, on shares as
+    compare_shares."""
+    comparison = compared(desk, shares)
+    verdict, ranges = comparison.verdict, list(_joined(_pieces(comparison)))
     found = {each.cheaper for each in ranges}
     if (FIRST in found, SECOND in found) != (verdict.second_dearer is not None, verdict.first_dearer is not None):
         raise AssertionError(f'the price ranges {ranges} do not show the verdict {verdict}')
     return ranges
-
-
-def break_even(desk: Desk, place: int) -> set[Price]:
-    """The price ratios at which a block of the pooled scale costs the same turned away and accepted: its survivors to its defaults.
-    Whether a block is repeated for an empty grade makes no difference."""
-    return {Price(block.obligors - block.defaults, block.defaults).reduced() for block in desk.pool(place)}
 
 
 def _turn(a: Price, b: Price) -> int:
@@ -55,33 +51,33 @@ def _turn(a: Price, b: Price) -> int:
     return b.u * a.v - a.u * b.v
 
 
-def _difference(desk: Desk, price: Price) -> int:
+def _difference(comparison: Comparison, price: Price) -> int | Fraction:
     """What the first costs more than the second."""
-    return desk.cheapest(1, *price).cost - desk.cheapest(2, *price).cost
+    return comparison.first.cheapest(*price).cost - comparison.second.cheapest(*price).cost
 
 
-def _crossing(desk: Desk, start: tuple[Price, int], end: tuple[Price, int]) -> Price:
+def _crossing(comparison: Comparison, start: tuple[Price, int | Fraction], end: tuple[Price, int | Fraction]) -> Price:
     """The ratio between two others at which the difference, linear between them, passes 0."""
     (a, first), (b, second) = start, end
-    crossing = Price(abs(second) * a.u + abs(first) * b.u, abs(second) * a.v + abs(first) * b.v).reduced()
-    if _difference(desk, crossing):
+    ratio = Fraction(abs(second) * a.u + abs(first) * b.u) / (abs(second) * a.v + abs(first) * b.v)
+    crossing = Price(ratio.numerator, ratio.denominator)
+    if _difference(comparison, crossing):
         raise AssertionError(f'the scales do not cost the same at {crossing}')
     return crossing
 
 
-def _sign(difference: int) -> str:
+def _sign(difference: int | Fraction) -> str:
     return FIRST if difference < 0 else SECOND if difference > 0 else BOTH
 
 
-def _pieces(desk: Desk) -> Iterator[PriceRange]:
+def _pieces(comparison: Comparison) -> Iterator[PriceRange]:
     """Single ratios and the open ranges between them, in turn, in none of which the difference changes its sign."""
-    prices = sorted(break_even(desk, 1) | break_even(desk, 2) | {LOWEST, HIGHEST},
-                    key=lambda price: Fraction(price.u, price.u + price.v))
-    points = [(price, _difference(desk, price)) for price in prices]
+    prices = sorted(comparison.first.break_even() | comparison.second.break_even() | {LOWEST, HIGHEST}, key=standing)
+    points = [(price, _difference(comparison, price)) for price in prices]
     for start, end in zip(points, points[1:]):
         yield PriceRange(start[0], start[0], True, True, _sign(start[1]))
         if start[1] * end[1] < 0:
-            crossing = _crossing(desk, start, end)
+            crossing = _crossing(comparison, start, end)
             yield PriceRange(start[0], crossing, False, False, _sign(start[1]))
             yield PriceRange(crossing, crossing, True, True, BOTH)
             yield PriceRange(crossing, end[0], False, False, _sign(end[1]))

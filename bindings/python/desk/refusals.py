@@ -24,6 +24,7 @@ MEANINGS = {
     32: 'a table runs past the end, in header or rows',
     33: 'bytes after the last table',
     34: 'announced rate below that of the row before',
+    35: 'N above 100,000 (compare on shares; N: obligors of the table)',
 }
 
 

@@ -12,6 +12,7 @@ from .refusals import Refused
 
 MAX_GRADES = 40
 MAX_OBLIGORS = 1_000_000
+MAX_OBLIGORS_ON_SHARES = 100_000  # of a table that is compared on shares
 MAX_ANNOUNCED = 1_000_000  # ppm
 COUNTS = ('obligors', 'survivors')  # what a first column may count; the index is its kind in a book
 NO_COLUMN = (str, bytes, bytearray, Set, Mapping)  # text, and what has no order of its own

@@ -117,6 +117,12 @@ fn refusals_prices_and_verdicts() {
 }
 
 #[test]
+fn prices_on_shares() {
+    let (u, v) = (2_500_000_000, 2_499_950_000);
+    prints_alike(&[case(format!("Price({u}, {v})"), Price { u, v })]);
+}
+
+#[test]
 fn measures_and_pooled_grades() {
     let mut random = Random::of_seed(4);
     let [gini, roc, cap, pietra] = [(); 4].map(|()| any_fraction(&mut random));

@@ -1,8 +1,8 @@
 //! Random scripts of calls through the C boundary, held against the plain version in `reference/`:
 //! its judgement of the answers, and here the desk and all that is lent, word for word.
 
-use desk::{Cutoff, Desk, Fraction, Grade, Measures, Place, Price, Spread, sys};
-use reference::answer::Answer;
+use desk::{Cutoff, Desk, Fraction, Grade, Measures, Place, Price, Refusal, Spread, sys};
+use reference::answer::{Answer, verdict_prices};
 use reference::compare::{judge, plan};
 use reference::desk::{LENT_BYTE, LENT_NUMBER};
 use reference::generate::Script;
@@ -68,13 +68,14 @@ fn cheapest(desk: &Desk, place: u32, u: u32, v: u32) -> Result<(u32, u64), u32> 
     Ok((narrow(cheapest.cutoff), cost))
 }
 
-fn compare(desk: &Desk) -> Result<cutoff::Verdict, u32> {
+/// What one of the two comparisons answers.
+fn compare(call: impl FnOnce(&mut sys::Verdict) -> u32) -> Result<cutoff::Verdict, u32> {
     let before = sys::Verdict {
         kind: 99,
         first_dearer: Price { u: 98, v: 97 },
         second_dearer: Price { u: 96, v: 95 },
     };
-    let verdict = answered(before, |answer| sys::compare(desk, answer))?;
+    let verdict = answered(before, call)?;
     let carried = |price: Price| cutoff::Price {
         missed_default: price.u.into(),
         lost_survivor: price.v.into(),
@@ -150,7 +151,10 @@ fn answer(desk: &mut Desk, call: &Call) -> Answer {
         Call::Clear { place } => Answer::Clear(done(sys::clear(desk, place))),
         Call::Pool { place, length } => pool(desk, place, length),
         Call::Cheapest { place, u, v } => Answer::Cheapest(cheapest(desk, place, u, v)),
-        Call::Compare => Answer::Compare(compare(desk)),
+        Call::Compare => Answer::Compare(compare(|answer| sys::compare(desk, answer))),
+        Call::CompareShares => {
+            Answer::CompareShares(compare(|answer| sys::compare_shares(desk, answer)))
+        }
         Call::Measures { place } => Answer::Measures(measures(desk, place)),
         Call::Brier { place } => Answer::Brier(brier(desk, place)),
         Call::Spread { place } => Answer::Spread(spread(desk, place)),
@@ -182,11 +186,21 @@ fn has_empty_grade(desk: &Desk, place: u32) -> bool {
     desk.grades(place).any(|grade| grade.obligors == 0)
 }
 
+/// Whether a price is negative where 32 bits are taken for a signed number.
+fn has_high_price(verdict: &cutoff::Verdict) -> bool {
+    let prices = verdict_prices(verdict).into_iter();
+    let mut numbers = prices.flat_map(|price| [price.missed_default, price.lost_survivor]);
+    numbers.any(|number| number >= 1 << 31)
+}
+
 /// How often scripts met what is rarer than the rest.
 #[derive(Default)]
 struct Met {
     poolings_with_empty_grades: u32,
     falling_rates: u32,
+    large_tables: u32,
+    other_totals: u32,
+    prices_above_i32: u32,
 }
 
 impl Met {
@@ -197,6 +211,11 @@ impl Met {
                 self.poolings_with_empty_grades += u32::from(has_empty_grade(desk, place));
             }
             (_, Answer::Load(Err(34))) => self.falling_rates += 1,
+            (_, Answer::CompareShares(Err(35))) => self.large_tables += 1,
+            (_, Answer::CompareShares(Ok(verdict))) => {
+                self.other_totals += u32::from(desk.compare() == Err(Refusal::Unlike));
+                self.prices_above_i32 += u32::from(has_high_price(verdict));
+            }
             _ => (),
         }
     }
@@ -235,9 +254,15 @@ fn agrees(seed: u64) {
             panic!("{difference:#?}");
         }
     }
-    let (poolings, falls) = (met.poolings_with_empty_grades, met.falling_rates);
-    assert!(poolings >= 20, "{poolings} with empty grades");
-    assert!(falls >= 20, "{falls} falling rates");
+    for (times, least, what) in [
+        (met.poolings_with_empty_grades, 20, "with empty grades"),
+        (met.falling_rates, 20, "falling rates"),
+        (met.large_tables, 20, "too large for shares"),
+        (met.other_totals, 20, "of different books"),
+        (met.prices_above_i32, 5, "with a price of 2^31 or more"),
+    ] {
+        assert!(times >= least, "{times} {what}");
+    }
 }
 
 #[test]

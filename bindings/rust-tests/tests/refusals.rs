@@ -70,14 +70,22 @@ fn cheapest_refused(desk: &Desk, place: u32, price: (u32, u32), number: u32) {
     });
 }
 
+const VERDICT: sys::Verdict = sys::Verdict {
+    kind: 9,
+    first_dearer: Price { u: 8, v: 7 },
+    second_dearer: Price { u: 6, v: 5 },
+};
+
 fn compare_refused(first: Option<Rows>, second: Option<Rows>, number: u32) {
-    let lent = sys::Verdict {
-        kind: 9,
-        first_dearer: Price { u: 8, v: 7 },
-        second_dearer: Price { u: 6, v: 5 },
-    };
-    refused(&desk_with(first, second), lent, number, |desk, answer| {
+    let desk = desk_with(first, second);
+    refused(&desk, VERDICT, number, |desk, answer| {
         sys::compare(desk, answer)
+    });
+}
+
+fn compare_shares_refused(desk: &Desk, number: u32) {
+    refused(desk, VERDICT, number, |desk, answer| {
+        sys::compare_shares(desk, answer)
     });
 }
 
@@ -335,4 +343,55 @@ fn compare_refuses_in_order() {
     compare_refused(Some(NO_SURVIVORS), Some(MIXED), 24);
     compare_refused(Some(MIXED), Some(more_survivors), 25);
     compare_refused(Some(fewer_defaults), Some(MIXED), 25);
+}
+
+/// What a place may hold, and the numbers that it brings to a comparison on shares.
+const HELD: [(Option<Rows>, &[u32]); 10] = [
+    (None, &[22]),
+    (Some(NO_DEFAULTS), &[23]),
+    (Some(NO_SURVIVORS), &[24]),
+    (Some(&[(100_001, 1)]), &[35]),
+    (Some(&[(60_000, 1), (0, 0), (40_001, 60)]), &[35]),
+    (Some(&[(1_000_000, 999_999)]), &[35]),
+    (Some(&[(100_001, 0)]), &[23, 35]),
+    (Some(&[(50_000, 50_000), (50_001, 50_001)]), &[24, 35]),
+    (Some(&[(60_000, 1), (0, 0), (40_000, 60)]), &[]),
+    (Some(MIXED), &[]),
+];
+
+/// 22, 23, 24 and 35 in this order, each for either place; D and S may differ.
+#[test]
+fn compare_shares_refuses_in_order() {
+    let mut accepted = 0;
+    for (first, brings) in HELD {
+        for (second, brings_too) in HELD {
+            let desk = desk_with(first, second);
+            if let Some(&number) = brings.iter().chain(brings_too).min() {
+                compare_shares_refused(&desk, number);
+                continue;
+            }
+            let mut verdict = VERDICT;
+            let before = desk.clone();
+            assert_eq!(sys::compare_shares(&desk, &mut verdict), 0);
+            assert!(verdict.kind < 4 && *black_box(&desk) == before);
+            accepted += 1;
+        }
+    }
+    assert_eq!(accepted, 4);
+}
+
+/// The two comparisons have nothing of each other: tables that are too large for shares compare by
+/// counts, tables of different books compare on shares.
+#[test]
+fn each_comparison_has_its_own_refusal() {
+    let large: Rows = &[(100_001, 1)];
+    let more_survivors: Rows = &[(10, 2), (10, 1), (21, 4)];
+    let same = desk_with(Some(large), Some(large));
+    assert_eq!(sys::compare(&same, &mut VERDICT.clone()), 0);
+    compare_shares_refused(&same, 35);
+    compare_refused(Some(large), Some(MIXED), 25);
+    compare_shares_refused(&desk_with(Some(large), Some(MIXED)), 35);
+    compare_refused(Some(MIXED), Some(more_survivors), 25);
+    let other = desk_with(Some(MIXED), Some(more_survivors));
+    assert_eq!(sys::compare_shares(&other, &mut VERDICT.clone()), 0);
 }

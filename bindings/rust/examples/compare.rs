@@ -1,4 +1,5 @@
-//! compare BOOK BOOK [RATER RATER]: says which of two rating scales over the same obligors is better.
+//! compare [--shares] BOOK BOOK [RATER RATER]: says which of two rating scales over the same obligors is better; with --shares, of
+//! two over different books.
 
 use desk::{Desk, Place, Price, Refusal, Verdict, WrongCut};
 use std::error::Error;
@@ -27,33 +28,63 @@ fn say_costs(desk: &Desk, price: Price) -> Result<(), Box<dyn Error>> {
     Ok(())
 }
 
-fn compare(books: [&str; 2], raters: [&str; 2]) -> Result<(), Box<dyn Error>> {
-    let mut desk = Desk::empty();
-    load(&mut desk, Place::First, books[0], raters[0])?;
-    load(&mut desk, Place::Second, books[1], raters[1])?;
-    let verdict = desk
-        .compare()
-        .map_err(|refusal| format!("compare: {refusal}"))?;
-    let words = match verdict {
+/// Prices on shares are for all defaults or survivors of a table, whichever table it is.
+fn say_dearer(verdict: Verdict) {
+    let (first, second) = (verdict.first_dearer(), verdict.second_dearer());
+    for (dearer, price) in [("first", first), ("second", second)] {
+        if let Some(Price { u, v }) = price {
+            print!("At {u} for all defaults missed and {v} for all survivors turned away");
+            println!(" the {dearer} costs more.");
+        }
+    }
+}
+
+fn words(verdict: Verdict) -> &'static str {
+    match verdict {
         Verdict::Equal => "The scales cost the same at all prices.",
         Verdict::First { .. } => "The first scale is better.",
         Verdict::Second { .. } => "The second scale is better.",
         Verdict::Crossing { .. } => "Each scale is better at some prices.",
+    }
+}
+
+fn compare(desk: &Desk, on_shares: bool) -> Result<(), Box<dyn Error>> {
+    let compared = if on_shares {
+        desk.compare_shares()
+    } else {
+        desk.compare()
     };
-    println!("{words}");
+    let verdict = compared.map_err(|refusal| format!("compare: {refusal}"))?;
+    println!("{}", words(verdict));
+    if on_shares {
+        say_dearer(verdict);
+        return Ok(());
+    }
     let prices = [verdict.first_dearer(), verdict.second_dearer()];
     let mut prices = prices.into_iter().flatten();
-    prices.try_for_each(|price| say_costs(&desk, price))
+    prices.try_for_each(|price| say_costs(desk, price))
+}
+
+fn run(words: &[&str]) -> Result<(), Box<dyn Error>> {
+    let (on_shares, books) = match words {
+        ["--shares", books @ ..] => (true, books),
+        _ => (false, words),
+    };
+    let ([one, other], [rater, other_rater]) = match *books {
+        [one, other] => ([one, other], ["1", "1"]),
+        [one, other, rater, other_rater] => ([one, other], [rater, other_rater]),
+        _ => return Err("usage: compare [--shares] BOOK BOOK [RATER RATER]".into()),
+    };
+    let mut desk = Desk::empty();
+    load(&mut desk, Place::First, one, rater)?;
+    load(&mut desk, Place::Second, other, other_rater)?;
+    compare(&desk, on_shares)
 }
 
 fn main() -> ExitCode {
     let words: Vec<String> = std::env::args().collect();
     let words: Vec<&str> = words.iter().map(String::as_str).collect();
-    let outcome = match words[1..] {
-        [one, other] => compare([one, other], ["1", "1"]),
-        [one, other, rater, other_rater] => compare([one, other], [rater, other_rater]),
-        _ => Err("usage: compare BOOK BOOK [RATER RATER]".into()),
-    };
+    let outcome = run(&words[1..]);
     if let Err(words) = &outcome {
         eprintln!("{words}");
     }

@@ -4,8 +4,8 @@ use crate::fraction::{Fraction, PLACES, common_divisor};
 use crate::text::pad;
 use std::fmt;
 
-/// What a missed default (u) and a survivor turned away (v) cost; only their ratio matters for
-/// which scale is better.
+/// What a missed default (u) and a survivor turned away (v) cost; on shares, all defaults missed and
+/// all survivors turned away. Only their ratio matters for which scale is better.
 ///
 /// ```
 /// use desk::Price;
@@ -15,9 +15,9 @@ use std::fmt;
 #[repr(C)]
 #[derive(Clone, Copy, Debug, Default, PartialEq, Eq, Hash)]
 pub struct Price {
-    /// Of a missed default.
+    /// Of a missed default; on shares, of missing all.
     pub u: u32,
-    /// Of a survivor turned away.
+    /// Of a survivor turned away; on shares, of turning away all.
     pub v: u32,
 }
 

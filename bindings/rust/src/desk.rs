@@ -26,6 +26,12 @@ fn answered<T: Default>(call: impl FnOnce(&mut T) -> u32) -> Result<T, Refusal> 
     Ok(answer)
 }
 
+/// The verdict that a comparison wrote.
+fn judged(compare: impl FnOnce(&mut sys::Verdict) -> u32) -> Result<Verdict, Refusal> {
+    let verdict = answered(compare)?;
+    Ok(Verdict::try_from(verdict).unwrap_or_else(|unknown| not_proved(unknown)))
+}
+
 /// The library of this version is proved to answer nothing of the kind.
 fn not_proved(unknown: UnknownNumber) -> ! {
     panic!("the library that was linked is not the proved one: {unknown}")
@@ -179,7 +185,7 @@ impl Desk {
         answered(|answer| sys::cheapest(self, place.into(), price.u, price.v, answer))
     }
 
-    /// Which of the two scales is at least as good as the other.
+    /// Which of the two scales over the same obligors is at least as good as the other.
     ///
     /// ```
     /// use desk::{Desk, Place, Table, Verdict};
@@ -200,8 +206,37 @@ impl Desk {
     ///
     /// Never with the proved library, which answers one of the four verdicts.
     pub fn compare(&self) -> Result<Verdict, Refusal> {
-        let verdict: sys::Verdict = answered(|answer| sys::compare(self, answer))?;
-        Ok(Verdict::try_from(verdict).unwrap_or_else(|unknown| not_proved(unknown)))
+        judged(|answer| sys::compare(self, answer))
+    }
+
+    /// Which of the two scales is at least as good on shares, for scales over different books: D and S
+    /// may differ. A cutoff costs u(D - y)/D + vx/S, where it turns away y defaults and x survivors:
+    /// u is the price of missing all defaults of the table, v that of turning away all its survivors.
+    /// Where neither D nor S differs, it is the verdict of [`compare`](Desk::compare), but for the
+    /// prices that it carries: up to [`MAX_PRICE_ON_SHARES`](crate::MAX_PRICE_ON_SHARES), and not for
+    /// [`cheapest`](Desk::cheapest), whose prices are of single obligors.
+    ///
+    /// ```
+    /// use desk::{Desk, Place, Refusal, Table, Verdict};
+    ///
+    /// let mut desk = Desk::empty();
+    /// desk.load_table(Place::First, &Table::by_obligors().grade(5, 2, 400_000).grade(1, 1, 1_000_000))?;
+    /// desk.load_table(Place::Second, &Table::by_survivors().grade(4, 0, 0).grade(2, 6, 750_000))?;
+    /// assert_eq!(desk.compare(), Err(Refusal::Unlike), "3 defaults, and 6");
+    /// assert!(matches!(desk.compare_shares()?, Verdict::Crossing { .. }));
+    /// # Ok::<(), desk::Refusal>(())
+    /// ```
+    ///
+    /// # Errors
+    ///
+    /// 22 ([`Refusal::Empty`]), 23 ([`Refusal::NoDefaults`]), 24 ([`Refusal::NoSurvivors`]),
+    /// 35 ([`Refusal::LargeTable`]).
+    ///
+    /// # Panics
+    ///
+    /// Never with the proved library, which answers one of the four verdicts.
+    pub fn compare_shares(&self) -> Result<Verdict, Refusal> {
+        judged(|answer| sys::compare_shares(self, answer))
     }
 
     /// D, S and the curve measures of the table in a place.

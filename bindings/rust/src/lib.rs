@@ -6,7 +6,8 @@
 //! obligors or survivors: one taken for the other can make the losing scale win while every figure
 //! still looks right. A scale is at least as good as another over the same obligors if its cheapest
 //! cutoff costs no more, whatever a missed default and a survivor turned away may cost;
-//! [`Desk::compare`] decides that, and shows prices where it does not hold.
+//! [`Desk::compare`] decides that, and shows prices where it does not hold. For scales over different
+//! books [`Desk::compare_shares`] decides the same by shares of their defaults and survivors.
 //!
 //! ```
 //! use desk::{Desk, Place, Table, Verdict};
@@ -57,8 +58,12 @@ pub const GRADES: usize = 40;
 pub const RATERS: usize = 16;
 /// The most obligors of a table.
 pub const MAX_OBLIGORS: u32 = 1_000_000;
-/// The highest price.
+/// The most obligors of a table that [`Desk::compare_shares`] takes.
+pub const MAX_OBLIGORS_ON_SHARES: u32 = 100_000;
+/// The highest price that [`Desk::cheapest`] takes and [`Desk::compare`] answers.
 pub const MAX_PRICE: u32 = 1_000_000;
+/// The highest price that [`Desk::compare_shares`] answers: above `i32::MAX`.
+pub const MAX_PRICE_ON_SHARES: u32 = 2_500_000_000;
 /// Numbers enough for whatever pooling a place writes.
 pub const POOL_NUMBERS: usize = 3 * GRADES;
 /// Bytes enough for whatever book a desk writes.

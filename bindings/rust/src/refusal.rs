@@ -84,6 +84,7 @@ refusals! {
     TableEnd = 32, "a table runs past the end, in header or rows";
     Leftover = 33, "bytes after the last table";
     FallingRate = 34, "announced rate below that of the row before";
+    LargeTable = 35, "N above 100,000 (compare on shares; N: obligors of the table)";
 }
 
 impl Refusal {

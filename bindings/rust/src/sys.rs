@@ -199,6 +199,24 @@ unsafe extern "C" {
     #[must_use = "a refused call writes no answer"]
     pub safe fn compare(desk: &Desk, answer: &mut Verdict) -> u32;
 
+    /// Which scale is at least as good on shares. Refuses 22, 23, 24, 35.
+    ///
+    /// ```
+    /// use desk::{sys, Desk, Place, Table};
+    ///
+    /// let mut desk = Desk::empty();
+    /// desk.load_table(Place::First, &Table::by_obligors().grade(3, 1, 0).grade(3, 2, 0))?;
+    /// desk.load_table(Place::Second, &Table::by_obligors().grade(6, 2, 0).grade(6, 4, 0))?;
+    /// let mut answer = sys::Verdict { kind: 9, ..Default::default() };
+    /// assert_eq!(sys::compare(&desk, &mut answer), 25, "twice as many obligors");
+    /// assert_eq!(sys::compare_shares(&desk, &mut answer), 0);
+    /// assert_eq!(answer.kind, 0, "equal");
+    /// # Ok::<(), desk::Refusal>(())
+    /// ```
+    #[link_name = "desk_compare_shares"]
+    #[must_use = "a refused call writes no answer"]
+    pub safe fn compare_shares(desk: &Desk, answer: &mut Verdict) -> u32;
+
     /// D, S and the four measures. Refuses 1, 22, 23, 24.
     ///
     /// ```

@@ -27,7 +27,7 @@ fn refusals_have_their_numbers_and_no_others() {
         numbers()
             .filter(|&number| Refusal::try_from(number).is_ok())
             .count(),
-        21
+        22
     );
 }
 
@@ -48,6 +48,16 @@ fn number_34_is_a_falling_rate() {
     assert_eq!(
         Refusal::FallingRate.to_string(),
         "refused 34: announced rate below that of the row before"
+    );
+}
+
+/// Document 02, R-6.
+#[test]
+fn number_35_is_a_large_table() {
+    assert_eq!(Refusal::try_from(35), Ok(Refusal::LargeTable));
+    assert_eq!(
+        Refusal::LargeTable.to_string(),
+        "refused 35: N above 100,000 (compare on shares; N: obligors of the table)"
     );
 }
 

@@ -106,7 +106,7 @@ fn every_function() {
         );
         count += 1;
     }
-    assert_eq!(count, 11, "the entry points, and the version");
+    assert_eq!(count, 12, "the entry points, and the version");
 }
 
 /// What C warns about where its result is not looked at, Rust warns about too.
@@ -129,7 +129,7 @@ fn every_checked_result() {
         assert!(attribute.trim().ends_with(']'), "{name}");
         count += 1;
     }
-    assert_eq!(count, 9);
+    assert_eq!(count, 10);
 }
 
 /// The fields of `uint32_t obligors[DESK_GRADES], grades; DeskPrice price;` as they are here.

@@ -146,6 +146,9 @@ fn a_price_is_a_ratio() {
         [price(0, 1), price(1, 0), price(0, 0)]
     );
     assert_eq!(reduced(u32::MAX, u32::MAX), price(1, 1));
+    let high = price(2_500_000_000, 2_499_950_000); // on shares
+    assert_eq!(high.to_string(), "2500000000:2499950000");
+    assert_eq!(high.reduced(), price(50_000, 49_999));
 }
 
 #[test]

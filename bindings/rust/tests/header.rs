@@ -44,7 +44,7 @@ fn numbers_are_those_of_documents_01_and_02() {
         .map(|refusal| refusal.number())
         .collect();
     let inputs = (1..=4).chain(6..=13); // R-2 gives 31 to 33 for 5
-    let expected = inputs.chain(21..=25).chain(31..=33).chain([34]); // which is R-5's
+    let expected = inputs.chain(21..=25).chain(31..=33).chain([34, 35]); // of
     assert_eq!(numbers, expected.collect::<Vec<u32>>());
 }
 
@@ -53,7 +53,15 @@ fn limits_are_those_of_the_header() {
     let limits = [
         ("DESK_GRADES", desk::GRADES.to_string()),
         ("DESK_MAX_OBLIGORS", desk::MAX_OBLIGORS.to_string()),
+        (
+            "DESK_MAX_OBLIGORS_ON_SHARES",
+            desk::MAX_OBLIGORS_ON_SHARES.to_string(),
+        ),
         ("DESK_MAX_PRICE", desk::MAX_PRICE.to_string()),
+        (
+            "DESK_MAX_PRICE_ON_SHARES", // unsigned, as int cannot hold it
+            format!("{}U", desk::MAX_PRICE_ON_SHARES),
+        ),
         ("DESK_POOL_NUMBERS", desk::POOL_NUMBERS.to_string()),
         ("DESK_BOOK_BYTES", desk::BOOK_BYTES.to_string()),
     ];

@@ -74,27 +74,31 @@ fn price(p: Price) {
 
 fn verdict(v: Verdict) {
     match v {
-        Verdict::Equal => text(b"compare ok equal"),
+        Verdict::Equal => text(b" ok equal"),
         Verdict::First(p) => {
-            text(b"compare ok first");
+            text(b" ok first");
             price(p);
         }
         Verdict::Second(p) => {
-            text(b"compare ok second");
+            text(b" ok second");
             price(p);
         }
         Verdict::Crossing(p, q) => {
-            text(b"compare ok crossing");
+            text(b" ok crossing");
             price(p);
             price(q);
         }
     }
 }
 
-pub fn compare(a: CompareAnswer) {
+// Of either comparison.
+pub fn compare(call: &[u8], a: CompareAnswer) {
     match a {
-        CompareAnswer::Verdict(v) => verdict(v),
-        CompareAnswer::Refused(n) => refused(b"compare", n),
+        CompareAnswer::Verdict(v) => {
+            text(call);
+            verdict(v);
+        }
+        CompareAnswer::Refused(n) => refused(call, n),
     }
 }
 

@@ -34,7 +34,7 @@ abbrev pub leaves : {A : Type 0} → ℕ → A → A → A
 leaves zero old new = new
 leaves (suc n) old new = old
 
--- What a call with the first fault n may answer, where document 01 leaves its values freer: a refusal is given, values have only to be P.
+-- What a call with the first fault n may answer, where the documents leave its values freer: a refusal is given, values have only to be P.
 abbrev pub Limited : {A : Type 0} → ℕ → (A → Type 0) → Answer A → Type 0
 Limited n P (accepted x) = (n ≡ 0) × P x
 Limited n P (refused m) = (n ≡ m) × (m ≡ 0 → ⊥)
@@ -61,7 +61,7 @@ abbrev pub spreadSays : SpreadAnswer → Answer Spread
 spreadSays (spread.Spread x) = accepted x
 spreadSays (spread.Refused n) = refused n
 
--- a place's answer to compare: D, S and N of its table
+-- a place's answer to a comparison: D, S and N of its table
 abbrev pub totalsSays : TotalsAnswer → Answer Totals
 totalsSays (totals.Totals t) = accepted t
 totalsSays (totals.Refused n) = refused n

@@ -1,4 +1,5 @@
-// The calls on one place, over its words: every check but that of the place's number, and then the work. Compare, which asks two, is in `pair`.
+// The calls on one place, over its words: every check but that of the place's number, and then the work. The two comparisons, which ask two
+// places, are in `pair`.
 ghost use mathlib.Core.Path.{_≡_};
 ghost use lib.ListN.{length};
 ghost use Rattle.table.specs.Counts.{totalsOf};
@@ -22,6 +23,7 @@ use cutoff::Verdict;
 use measures::Measures;
 use measures::UnsignedFraction;
 pub use pair::compare;
+pub use pair::compare_shares;
 use pooling::NUMBERS;
 use refusals::HIGH_PRICE;
 use refusals::NO_DEFAULTS;
@@ -60,7 +62,7 @@ pub enum SpreadAnswer {
     Refused(u32),
 }
 
-// A place's answer to compare, which asks it for the totals of its table.
+// A place's answer to a comparison, which asks it for the totals of its table.
 pub enum TotalsAnswer {
     Totals(Totals),
     Refused(u32),
@@ -174,7 +176,7 @@ pub fn spread(place: &[u32]) -> SpreadAnswer
     SpreadAnswer::Spread(spread::spread_of(place))
 }
 
-// The totals of the table, for compare.
+// The totals of the table, for the comparisons.
 fn totals(place: &[u32]) -> TotalsAnswer
     requires { ⌜ IsPlace (now place) ⌝ }
     ensures { λ r. let p = placeIn (now (place .entry)) in ⌜ totalsSays r ≡ answer (emptyFault p) (totalsOf (tableOf p)) ⌝ }

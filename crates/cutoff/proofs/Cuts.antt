@@ -1,41 +1,99 @@
 -- The cheapest cutoff of a scale of rising odds: it accepts the grades whose defaults cost no more than their survivors, which are the
 -- better ones, and turns the worse ones away.
-use Prim.Native.Nat.{ℕ, _+_, _*_, _≤_, _<_}
+use Prim.Native.Nat.{ℕ, suc, _+_, _*_, _≤_, _<_}
 use mathlib.Core.Path.{_≡_}
 use mathlib.Core.List.{[], _∷_, _++_}
+use native.Mathlib.Nat.{mul-le-mul-left}
 use native.Mathlib.Omega.{arith}
+use native.Mathlib.Decide.{decLe}
+use borrow.Author.Tests.{le-leb, lt-leb}
+use lib.ListN.{length, drop}
 use Rattle.table.specs.Table.{Table, Grade, Every, survivors, defaultsIn, survivorsIn}
-use Rattle.table.proofs.Arithmetic.{times-eq}
 use Rattle.table.proofs.Every.{every-map, every-split}
+use Rattle.cutoff.specs.Sweep.{acceptedAt}
 use Rattle.cutoff.proofs.Cost.{cheapestCost}
-use Rattle.cutoff.proofs.Odds.{OddsBelow, OddsRise, Away, Accepted, odds-at-most, accepted-better, gradewise, all-turned-away, cheapest-gradewise}
+use Rattle.cutoff.proofs.Odds.{OddsBelow, OddsRise, Away, Accepted, away-worse, accepted-better, gradewise, all-turned-away, cheapest-gradewise}
 
 -- It is cheapest to turn away s, the worst grades of t: the cost is u (D - y) + v x.
 pub record Cuts (t s : Table) (u v : ℕ) : Type 0 where
   pub balance : cheapestCost t u v + u * defaultsIn s ≡ u * defaultsIn t + v * survivorsIn s
-
--- At the break-even prices of a grade.
-
-abbrev pub AwayAt : Grade → Grade → Type 0
-AwayAt c = Away (survivors c) (c .defaults)
-
-abbrev pub CutsAt : Grade → Table → Table → Type 0
-CutsAt c t s = Cuts t s (survivors c) (c .defaults)
-
--- What is turned away at those of a grade is turned away at those of a better one.
-pub away-better : (b c r : Grade) → OddsBelow b c → AwayAt c r → AwayAt b r
-away-better b c r h k = omega (arith, odds-at-most (survivors r) (r .defaults) (b .defaults) (survivors b) (c .defaults) (survivors c) h (omega arith))
 
 -- Odds that rise over a scale rise over its worst grades.
 pub odds-worse : (p s : Table) → OddsRise (p ++ s) → OddsRise s
 odds-worse [] s h = h
 odds-worse (r ∷ p) s h = odds-worse p s (h .1)
 
--- All grades are turned away.
-pub cuts-all : (t : Table) (u v : ℕ) → OddsRise t → Every (Away u v) t → Cuts t t u v
-cuts-all t u v odds h = record { balance = omega (arith, cheapest-gradewise t odds u v, all-turned-away t u v h) }
+-- How many are accepted.
 
--- q is accepted, and so are all grades before it.
+accepted-none : (u v : ℕ) (r : Grade) (t : Table) → Away u v r → acceptedAt u v (r ∷ t) ≡ 0
+unfolding acceptedAt
+accepted-none u v r t h = rw (le-leb (v * survivors r) (u * r .defaults) h)
+
+accepted-more : (u v : ℕ) (r : Grade) (t : Table) → u * r .defaults < v * survivors r → acceptedAt u v (r ∷ t) ≡ suc (acceptedAt u v t)
+unfolding acceptedAt
+accepted-more u v r t h = rw (lt-leb (v * survivors r) (u * r .defaults) h)
+
+pub accepted-le : (u v : ℕ) (t : Table) → acceptedAt u v t ≤ length t
+unfolding acceptedAt
+accepted-le u v [] = omega arith
+accepted-le u v (r ∷ t) =
+    elim (decLe (v * survivors r) (u * r .defaults)) [
+      | yes h ↦ rw (le-leb (v * survivors r) (u * r .defaults) h) (omega arith)
+      | no h ↦ rw (lt-leb (v * survivors r) (u * r .defaults) (omega arith)) (omega (arith, accepted-le u v t))
+    ]
+
+-- No grade behind one that is turned away; all grades before one that is not.
+pub accepted-before : (u v : ℕ) (p : Table) (q : Grade) (s : Table) → Away u v q → acceptedAt u v (p ++ q ∷ s) ≤ length p
+accepted-before u v [] q s h = omega (arith, accepted-none u v q s h)
+accepted-before u v (r ∷ p) q s h =
+    elim (decLe (v * survivors r) (u * r .defaults)) [
+      | yes k ↦ omega (arith, accepted-none u v r (p ++ q ∷ s) k)
+      | no k ↦ omega (arith, accepted-more u v r (p ++ q ∷ s) (omega arith), accepted-before u v p q s h)
+    ]
+
+pub accepted-after : (u v : ℕ) (p : Table) (q : Grade) (s : Table) → OddsRise (p ++ q ∷ s) → u * q .defaults < v * survivors q
+    → length p < acceptedAt u v (p ++ q ∷ s)
+accepted-after u v [] q s odds h = omega (arith, accepted-more u v q s h)
+accepted-after u v (r ∷ p) q s odds h =
+    let below = every-split (OddsBelow r) p (q ∷ s) (odds .0) .1 .0 in
+    elim (decLe (v * survivors r) (u * r .defaults)) [
+      | yes k ↦ absurd (omega (arith, away-worse u v r q below k))
+      | no k ↦ omega (arith, accepted-more u v r (p ++ q ∷ s) (omega arith), accepted-after u v p q s (odds .1) h)
+    ]
+
+-- Fewer are accepted at prices at which all is turned away that is at others.
+pub accepted-fewer : (u v u′ v′ : ℕ) → ((r : Grade) → Away u v r → Away u′ v′ r) → (t : Table) → acceptedAt u′ v′ t ≤ acceptedAt u v t
+unfolding acceptedAt
+accepted-fewer u v u′ v′ f [] = omega arith
+accepted-fewer u v u′ v′ f (r ∷ t) =
+    elim (decLe (v′ * survivors r) (u′ * r .defaults)) [
+      | yes k ↦ rw (le-leb (v′ * survivors r) (u′ * r .defaults) k) (omega arith)
+      | no k ↦
+          elim (decLe (v * survivors r) (u * r .defaults)) [
+            | yes l ↦ absurd (k (f r l))
+            | no l ↦ rw (lt-leb (v * survivors r) (u * r .defaults) (omega arith), lt-leb (v′ * survivors r) (u′ * r .defaults) (omega arith))
+                (omega (arith, accepted-fewer u v u′ v′ f t))
+          ]
+    ]
+
+-- To turn the others away is cheapest.
+
+accepted-gradewise : (t : Table) (u v : ℕ) → OddsRise t
+    → gradewise t u v + u * defaultsIn (drop (acceptedAt u v t) t) ≡ u * defaultsIn t + v * survivorsIn (drop (acceptedAt u v t) t)
+unfolding gradewise defaultsIn survivorsIn acceptedAt
+accepted-gradewise [] u v odds = omega arith
+accepted-gradewise (r ∷ t) u v odds =
+    elim (decLe (v * survivors r) (u * r .defaults)) [
+      | yes h ↦ rw (le-leb (v * survivors r) (u * r .defaults) h)
+          (omega (arith, all-turned-away (r ∷ t) u v (h, every-map (λ s b. away-worse u v r s b h) t (odds .0))))
+      | no h ↦ rw (lt-leb (v * survivors r) (u * r .defaults) (omega arith)) (omega (arith, accepted-gradewise t u v (odds .1)))
+    ]
+
+pub accepted-cuts : (t : Table) (u v : ℕ) → OddsRise t → Cuts t (drop (acceptedAt u v t) t) u v
+accepted-cuts t u v odds = record { balance = omega (arith, cheapest-gradewise t odds u v, accepted-gradewise t u v odds) }
+
+-- At the break-even prices of q, or k times these, to turn away what is worse than q.
+
 gradewise-after : (p : Table) (q : Grade) (s : Table) (u v : ℕ) → OddsRise (p ++ q ∷ s) → Accepted u v q → Every (Away u v) s
     → gradewise (p ++ q ∷ s) u v + u * defaultsIn s ≡ u * defaultsIn (p ++ q ∷ s) + v * survivorsIn s
 unfolding gradewise defaultsIn
@@ -44,21 +102,19 @@ gradewise-after (r ∷ p) q s u v odds k h =
     let below = every-split (OddsBelow r) p (q ∷ s) (odds .0) .1 .0 in
     omega (arith, gradewise-after p q s u v (odds .1) k h, accepted-better u v r q below k)
 
-pub cuts-after : (p : Table) (q : Grade) (s : Table) (u v : ℕ) → OddsRise (p ++ q ∷ s) → Accepted u v q → Every (Away u v) s
-    → Cuts (p ++ q ∷ s) s u v
-cuts-after p q s u v odds k h =
-    record { balance = omega (arith, cheapest-gradewise (p ++ q ∷ s) odds u v, gradewise-after p q s u v odds k h) }
+pub cuts-at : (k : ℕ) (p : Table) (q : Grade) (s : Table) → OddsRise (p ++ q ∷ s) → Cuts (p ++ q ∷ s) s (k * survivors q) (k * q .defaults)
+cuts-at k p q s odds =
+    let worse = every-map {Q = Away (k * survivors q) (k * q .defaults)} (λ r h. omega (arith, mul-le-mul-left k h)) s (odds-worse p (q ∷ s) odds .0) in
+    let own = gradewise-after p q s (k * survivors q) (k * q .defaults) odds (omega arith) worse in
+    record { balance = omega (arith, cheapest-gradewise (p ++ q ∷ s) odds (k * survivors q) (k * q .defaults), own) }
 
--- At the break-even prices of q.
-pub cuts-at : (p : Table) (q : Grade) (s : Table) → OddsRise (p ++ q ∷ s) → CutsAt q (p ++ q ∷ s) s
-cuts-at p q s odds =
-    cuts-after p q s (survivors q) (q .defaults) odds (omega arith)
-    (every-map (λ r h. omega arith) s (odds-worse p (q ∷ s) odds .0))
+-- Two tables whose defaults cost the same compare by what their cheapest cutoffs catch and lose.
+module _ {t₁ t₂ s₁ s₂ : Table} {u₁ v₁ u₂ v₂ : ℕ} (same : u₁ * defaultsIn t₁ ≡ u₂ * defaultsIn t₂)
+    (cut₁ : Cuts t₁ s₁ u₁ v₁) (cut₂ : Cuts t₂ s₂ u₂ v₂) where
+  pub cuts-dearer : u₁ * defaultsIn s₁ + v₂ * survivorsIn s₂ < u₂ * defaultsIn s₂ + v₁ * survivorsIn s₁
+      → cheapestCost t₂ u₂ v₂ < cheapestCost t₁ u₁ v₁
+  cuts-dearer h = omega arith
 
--- Two tables with equally many defaults compare by what their cheapest cutoffs catch and lose.
-module _ {t₁ t₂ s₁ s₂ : Table} {u v : ℕ} (same : defaultsIn t₁ ≡ defaultsIn t₂) (cut₁ : Cuts t₁ s₁ u v) (cut₂ : Cuts t₂ s₂ u v) where
-  pub cuts-dearer : u * defaultsIn s₁ + v * survivorsIn s₂ < u * defaultsIn s₂ + v * survivorsIn s₁ → cheapestCost t₂ u v < cheapestCost t₁ u v
-  cuts-dearer h = omega (arith, times-eq u same)
-
-  pub cuts-no-dearer : u * defaultsIn s₂ + v * survivorsIn s₁ ≤ u * defaultsIn s₁ + v * survivorsIn s₂ → cheapestCost t₁ u v ≤ cheapestCost t₂ u v
-  cuts-no-dearer h = omega (arith, times-eq u same)
+  pub cuts-no-dearer : u₂ * defaultsIn s₂ + v₁ * survivorsIn s₁ ≤ u₁ * defaultsIn s₁ + v₂ * survivorsIn s₂
+      → cheapestCost t₁ u₁ v₁ ≤ cheapestCost t₂ u₂ v₂
+  cuts-no-dearer h = omega arith

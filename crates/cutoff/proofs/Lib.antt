@@ -2,9 +2,12 @@ pub mod Best
 pub mod Cost
 pub mod Pooled
 pub mod Odds
+pub mod Weighted
 pub mod Dominance
 pub mod Cuts
 pub mod Held
-pub mod Sweep
 pub mod Settled
+pub mod Leads
+pub mod Sweep
 pub mod Judged
+pub mod Once

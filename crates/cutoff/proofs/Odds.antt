@@ -75,7 +75,7 @@ all-turned-away [] u v h = omega arith
 all-turned-away (r ∷ t) u v h = omega (arith, all-turned-away t u v (h .1))
 
 -- What is turned away at some odds is turned away at higher ones; what is accepted, at lower ones.
-away-worse : (u v : ℕ) (r s : Grade) → OddsBelow r s → Away u v r → Away u v s
+pub away-worse : (u v : ℕ) (r s : Grade) → OddsBelow r s → Away u v r → Away u v s
 away-worse u v r s h k = omega (arith, odds-at-most v u (survivors s) (s .defaults) (survivors r) (r .defaults) (omega arith) (omega arith))
 
 pub accepted-better : (u v : ℕ) (r s : Grade) → OddsBelow r s → Accepted u v s → Accepted u v r

@@ -1,14 +1,19 @@
 // Cutoffs: what turning the worst grades away costs, where that is cheapest, and which of two scales is better by it.
-ghost use Prim.Native.Nat.{_+_, _*_, _≤_};
+ghost use Prim.Native.Nat.{_*_, _≤_};
 ghost use mathlib.Core.Path.{_≡_};
 ghost use lib.Dec.{leb};
-ghost use Rattle.table.specs.Table.{Counted, survivors, defaultsIn, survivorsIn};
+ghost use lib.IntN.{pos, _+ℤ_, _-ℤ_, _*ℤ_};
+ghost use lib.ListN.{length};
+ghost use lib.Signed.{ltZ};
+ghost use Rattle.table.specs.Table.{Counted, defaultsIn, survivorsIn};
 ghost use Rattle.table.specs.Words.{tableIn, HoldsTable};
 ghost use Rattle.table.specs.Counts.{largest};
 ghost use Rattle.pooling.specs.Pool.{asGrade};
 ghost use Rattle.cutoff.specs.Cutoff.{cheapestOf};
-ghost use Rattle.cutoff.specs.Verdict.{breakEven, IsVerdict};
-ghost use Rattle.cutoff.specs.Sweep.{scaleIn, Sweepable, Finds};
+ghost use Rattle.cutoff.specs.Verdict.{IsVerdict};
+ghost use Rattle.cutoff.specs.Sweep.{scaleIn, Sweepable, inWeights, Light, Matched, countsIn, Few, Small};
+ghost use Rattle.cutoff.specs.Sweep.{ahead, behind, IsLead, acceptedIn, SmallIn, Turned};
+ghost use Rattle.cutoff.specs.Sweep.{Finds, priceIn, SmallPrice, dearerAt, verdictOf};
 ghost use Rattle.cutoff.specs.Claims.{Claims};
 use pooling::BLOCKS;
 use pooling::Block;
@@ -64,101 +69,186 @@ pub struct Price {
 }
 
 impl Price {
-    // The prices at which missing a block's defaults costs as much as turning its survivors away.
-    fn break_even(b: Block) -> Price
-        requires { ⌜ Counted (asGrade b) ⌝ }
-        ensures { λ r. ⌜ r ≡ breakEven (asGrade b) ⌝ }
+    // The prices at which missing a block's defaults costs as much as turning its survivors away, in the other scale's weights.
+    fn break_even(b: Block, other: Weights) -> Price
+        requires counted { ⌜ Counted (asGrade b) ⌝ }
+        requires small { ⌜ (priceIn other b .u ≤ largest) × (priceIn other b .v ≤ largest) ⌝ }
+        ensures { λ r. ⌜ r ≡ priceIn other b ⌝ }
     {
         Price {
-            u: Obligors(b.obligors).survivors(b.defaults).0,
-            v: b.defaults,
+            u: Obligors(b.obligors).survivors(b.defaults).0 * other.defaults,
+            v: b.defaults * other.survivors,
         }
     }
+}
 
-    // Whether turning a block's survivors away costs no more than missing its defaults.
-    fn turns_away(self, b: Block) -> bool
-        requires { ⌜ Counted (asGrade b) ⌝ }
-        ensures { λ r. ⌜ r ≡ leb (self .v * survivors (asGrade b)) (self .u * b .defaults) ⌝ }
+// How often each default and each survivor of a scale counts.
+pub struct Weights {
+    pub defaults: u32,
+    pub survivors: u32,
+}
+
+// Each counts once.
+const ONCE: Weights = Weights {
+    defaults: 1,
+    survivors: 1,
+};
+
+// What a block counts in a scale, its defaults and its survivors each times their weight.
+struct Counts {
+    defaults: u64,
+    survivors: u64,
+}
+
+impl Weights {
+    // What a block counts in these weights.
+    fn counts(self, b: Block) -> Counts
+        requires light { ⌜ Light self ⌝ }
+        requires counted { ⌜ Counted (asGrade b) × (b .obligors ≤ 1_000_000) ⌝ }
+        ensures { λ r. ⌜ r ≡ countsIn self (asGrade b) ⌝ }
     {
         let lost = Obligors(b.obligors).survivors(b.defaults);
-        (self.v as u64) * (lost.0 as u64) <= (self.u as u64) * (b.defaults as u64)
-    }
-
-    // What so many defaults and so many survivors cost.
-    fn cost(self, defaults: u32, survivors: Survivors) -> u64
-        requires prices { ⌜ (self .u ≤ 1_000_000) × (self .v ≤ 1_000_000) ⌝ }
-        requires counts { ⌜ (defaults ≤ 1_000_000) × (survivors .0 ≤ 1_000_000) ⌝ }
-        ensures { λ r. ⌜ r ≡ self .u * defaults + self .v * survivors .0 ⌝ }
-    {
-        (self.u as u64) * (defaults as u64) + (self.v as u64) * (survivors.0 as u64)
-    }
-}
-
-// What a cutoff does: the defaults that it catches and the survivors that it turns away.
-struct Cut {
-    caught: u32,
-    lost: Survivors,
-}
-
-impl Cut {
-    // The cutoff that turns one more block away.
-    fn with(self, b: Block) -> Cut
-        requires counted { ⌜ Counted (asGrade b) ⌝ }
-        requires defaults { ⌜ self .caught + b .defaults ≤ largest ⌝ }
-        requires survivors { ⌜ self .lost .0 + survivors (asGrade b) ≤ largest ⌝ }
-        ensures { λ r. ⌜ (r .caught ≡ self .caught + b .defaults) × (r .lost .0 ≡ self .lost .0 + survivors (asGrade b)) ⌝ }
-    {
-        Cut {
-            caught: self.caught + b.defaults,
-            lost: self.lost.plus(Obligors(b.obligors).survivors(b.defaults)),
+        Counts {
+            defaults: (self.defaults as u64) * (b.defaults as u64),
+            survivors: (self.survivors as u64) * (lost.0 as u64),
         }
     }
+}
+
+impl Counts {
+    // Whether at this block's break-even prices, its survivors of a missed default and its defaults of a survivor turned away, turning
+    // another's survivors away costs no more than missing its defaults.
+    fn turns_away(self, b: Counts) -> bool
+        requires { ⌜ (self .defaults * b .survivors ≤ 6_250_000_000_000_000_000) × (self .survivors * b .defaults ≤ 6_250_000_000_000_000_000) ⌝ }
+        ensures { λ r. ⌜ r ≡ leb (self .defaults * b .survivors) (self .survivors * b .defaults) ⌝ }
+    {
+        self.defaults * b.survivors <= self.survivors * b.defaults
+    }
+}
+
+// How far a cutoff of the second scale is ahead of one of the first: by so many defaults caught and survivors turned away, which are negative
+// where it is behind. The words of the second's blocks that it turns away start at `from`.
+struct Lead {
+    from: usize,
+    defaults: i64,
+    survivors: i64,
+}
+
+impl Lead {
+    // No block of either scale is turned away.
+    fn none(blocks: &[u32]) -> Lead
+        ensures { λ r. ⌜ r ≡ record { from = length (now (blocks .entry)); defaults = pos 0; survivors = pos 0 } ⌝ }
+    {
+        Lead {
+            from: blocks.len(),
+            defaults: 0,
+            survivors: 0,
+        }
+    }
+
+    // The second turns its next better block away, too.
+    fn with(self, b: Counts) -> Lead
+        requires words { ⌜ 3 ≤ self .from ⌝ }
+        requires few { ⌜ Few b ⌝ }
+        requires small { ⌜ Small (self .defaults +ℤ pos (b .defaults)) × Small (self .survivors +ℤ pos (b .survivors)) ⌝ }
+        ensures { λ r. ⌜ r ≡ ahead self b ⌝ }
+    {
+        Lead {
+            from: self.from - 3,
+            defaults: self.defaults + (b.defaults as i64),
+            survivors: self.survivors + (b.survivors as i64),
+        }
+    }
+
+    // The first turns its next better block away, too.
+    fn passed(self, at: Counts) -> Lead
+        requires few { ⌜ Few at ⌝ }
+        requires small { ⌜ Small (self .defaults -ℤ pos (at .defaults)) × Small (self .survivors -ℤ pos (at .survivors)) ⌝ }
+        ensures { λ r. ⌜ r ≡ behind self at ⌝ }
+    {
+        Lead {
+            from: self.from,
+            defaults: self.defaults - (at.defaults as i64),
+            survivors: self.survivors - (at.survivors as i64),
+        }
+    }
+
+    // The second's cheapest cutoff at a block's break-even prices, which turns away all that this one does.
+    fn turning_away(self, blocks: &[u32], weights: Weights, at: Counts) -> Lead
+        requires scale { ⌜ Sweepable (now blocks) × (Light weights × IsLead weights (scaleIn (now blocks)) self) ⌝ }
+        requires fewer { ⌜ 3 * acceptedIn weights at (scaleIn (now blocks)) ≤ self .from ⌝ }
+        requires small { ⌜ SmallIn weights (scaleIn (now blocks)) at ⌝ }
+        ensures { λ r. ⌜ Turned weights at (scaleIn (now (blocks .entry))) self r ⌝ }
+    {
+        let mut lead = self;
+        while 0 < lead.from {
+            let next = weights.counts(block_at(blocks, lead.from - 3));
+            if !at.turns_away(next) {
+                return lead;
+            }
+            lead = lead.with(next);
+        }
+        lead
+    }
+
+    // Whether the first costs more at a block's break-even prices u and v. All defaults of both scales cost the same, so that u (D - y) + v x
+    // is more for the first exactly if u times the lead in y is more than v times the lead in x.
+    fn shows_dearer(self, at: Counts) -> bool
+        requires few { ⌜ Few at ⌝ }
+        requires small { ⌜ Small (pos (at .defaults) *ℤ self .survivors) × Small (pos (at .survivors) *ℤ self .defaults) ⌝ }
+        ensures { λ r. ⌜ r ≡ ltZ (pos (at .defaults) *ℤ self .survivors) (pos (at .survivors) *ℤ self .defaults) ⌝ }
+    {
+        (at.defaults as i64) * self.survivors < (at.survivors as i64) * self.defaults
+    }
+}
+
+// What a search over the blocks of a scale finds: one of them, or nothing.
+pub enum Found {
+    One(Block),
+    Nothing,
+}
+
+// A block of the first scale at whose break-even prices the first costs more than the second, each in its weights. They are tried from the
+// worst block on: there it is cheapest to turn away the worse blocks of the first, and of the second those whose survivors cost no more than
+// their defaults. The prices of a better block turn more of them away.
+pub fn where_dearer(first: &[u32], weights1: Weights, second: &[u32], weights2: Weights) -> Found
+    requires scales { ⌜ Sweepable (now first) × Sweepable (now second) ⌝ }
+    requires light { ⌜ Light weights1 × Light weights2 ⌝ }
+    requires matched { ⌜ Matched (inWeights weights1 (scaleIn (now first))) (inWeights weights2 (scaleIn (now second))) ⌝ }
+    ensures { λ r. ⌜ Finds weights1 weights2 (scaleIn (now (first .entry))) (scaleIn (now (second .entry))) r ⌝ }
+{
+    let mut i = first.len();
+    let mut lead = Lead::none(second);
+    while 0 < i {
+        i -= 3;
+        let block = block_at(first, i);
+        let at = weights1.counts(block);
+        lead = lead.turning_away(second, weights2, at);
+        if lead.shows_dearer(at) {
+            return Found::One(block);
+        }
+        lead = lead.passed(at);
+    }
+    Found::Nothing
 }
 
 // Where one scale costs more than another: at these prices, or nowhere.
-enum Dearer {
+pub enum Dearer {
     At(Price),
     Nowhere,
 }
 
-// Prices at which the first scale costs more than the second: break-even prices of one of the first's blocks, tried from the worst on.
-// At these it is cheapest to turn away the worse blocks of the first, from i on, and of the second those from j on, whose survivors
-// cost no more than their defaults. The prices of a better block turn more of them away, so j only falls.
-// Both scales have D defaults. So u (D - y) + v x is more for the first exactly if u y + v x is less with the first's y and the
-// second's x than with the second's y and the first's x.
-fn where_dearer(first: &[u32], second: &[u32]) -> Dearer
-    requires scales { ⌜ Sweepable (now first) × Sweepable (now second) ⌝ }
-    requires defaults { ⌜ defaultsIn (scaleIn (now first)) ≡ defaultsIn (scaleIn (now second)) ⌝ }
-    ensures { λ r. ⌜ Finds (scaleIn (now (first .entry))) (scaleIn (now (second .entry))) r ⌝ }
-{
-    let mut i = first.len();
-    let mut j = second.len();
-    let mut ours = Cut {
-        caught: 0,
-        lost: Survivors(0),
-    };
-    let mut theirs = Cut {
-        caught: 0,
-        lost: Survivors(0),
-    };
-    while 0 < i {
-        let block = block_at(first, i - 3);
-        let price = Price::break_even(block);
-        if 0 < j {
-            let next = block_at(second, j - 3);
-            if price.turns_away(next) {
-                j -= 3;
-                theirs = theirs.with(next);
-                continue;
-            }
+impl Found {
+    // At the break-even prices of the block that was found.
+    pub fn at_break_even(self, other: Weights) -> Dearer
+        requires { ⌜ SmallPrice other self ⌝ }
+        ensures { λ r. ⌜ r ≡ dearerAt other self ⌝ }
+    {
+        match self {
+            Found::One(b) => Dearer::At(Price::break_even(b, other)),
+            Found::Nothing => Dearer::Nowhere,
         }
-        if price.cost(ours.caught, theirs.lost) < price.cost(theirs.caught, ours.lost) {
-            return Dearer::At(price);
-        }
-        i -= 3;
-        ours = ours.with(block);
     }
-    Dearer::Nowhere
 }
 
 // Which of two scales is better.
@@ -170,6 +260,24 @@ pub enum Verdict {
     Second(Price),
     // prices at which the first costs more, and prices at which the second does
     Crossing(Price, Price),
+}
+
+impl Verdict {
+    // Where the first costs more, and where the second does, make the verdict.
+    pub fn of(first: Dearer, second: Dearer) -> Verdict
+        ensures { λ r. ⌜ r ≡ verdictOf first second ⌝ }
+    {
+        match first {
+            Dearer::Nowhere => match second {
+                Dearer::Nowhere => Verdict::Equal,
+                Dearer::At(q) => Verdict::First(q),
+            },
+            Dearer::At(p) => match second {
+                Dearer::Nowhere => Verdict::Second(p),
+                Dearer::At(q) => Verdict::Crossing(p, q),
+            },
+        }
+    }
 }
 
 // The verdict on the tables in two lent places, of equally many defaults and equally many survivors.
@@ -185,18 +293,11 @@ pub fn judge(first: &[u32], second: &[u32]) -> Verdict
     let theirs_from = blocks_of(second, &mut theirs);
     let our_blocks = &ours[ours_from..];
     let their_blocks = &theirs[theirs_from..];
-    let first_dearer = where_dearer(our_blocks, their_blocks);
-    let second_dearer = where_dearer(their_blocks, our_blocks);
-    match first_dearer {
-        Dearer::Nowhere => match second_dearer {
-            Dearer::Nowhere => Verdict::Equal,
-            Dearer::At(q) => Verdict::First(q),
-        },
-        Dearer::At(p) => match second_dearer {
-            Dearer::Nowhere => Verdict::Second(p),
-            Dearer::At(q) => Verdict::Crossing(p, q),
-        },
-    }
+    let first_found = where_dearer(our_blocks, ONCE, their_blocks, ONCE);
+    let second_found = where_dearer(their_blocks, ONCE, our_blocks, ONCE);
+    let first_dearer = first_found.at_break_even(ONCE);
+    let second_dearer = second_found.at_break_even(ONCE);
+    Verdict::of(first_dearer, second_dearer)
 }
 
 // What is claimed of cutoffs: the function does nothing, its contract is all claims of this crate.

@@ -4,7 +4,7 @@ use Prim.Native.Nat.{ℕ, _-_, _≤_}
 use mathlib.Core.Path.{_≡_, refl, sym, ap, _∙_}
 use mathlib.Core.List.{List, [], _++_}
 use lib.ListN.{length, take, drop, getD}
-use Rattle.table.specs.Table.{Every, occupied}
+use Rattle.table.specs.Table.{Every, Mixed, occupied}
 use Rattle.table.proofs.Occupied.{all-occupied}
 use Rattle.table.proofs.Words.{sound-loaded}
 use Rattle.book.specs.Bytes.{Byte}
@@ -22,7 +22,6 @@ use Rattle.pooling.specs.Claims.{RepeatsNextBetter, RepeatsBest}
 use Rattle.pooling.proofs.LeastSquares.{pooled-regression}
 use Rattle.pooling.proofs.Repeating.{next-better, best-occupied}
 use Rattle.pooling.proofs.Written.{rates-written}
-use Rattle.measures.specs.Claims.{Mixed}
 use Rattle.calls.specs.Calls.{measures, questionFault, pool, fillFault}
 use Rattle.desk.specs.declared.Desk.{Desk}
 use Rattle.desk.specs.Desk.{tableAt, SoundDesk}

@@ -16,9 +16,10 @@ use Rattle.book.specs.Reading.{readFault}
 use Rattle.book.specs.Writing.{writeFault}
 use Rattle.book.proofs.Numbers.{allPass, fault-passes, first-passes, rows-pass, tables-pass}
 use Rattle.calls.specs.Calls.{Question, cheapest, measures, brier, spread, questionChecks, questionFault, Filling, pool, fillSize, fillFault, Change, load, clear, changeFault, emptyFault, pairChecks, compareFault}
+use Rattle.calls.specs.Shares.{sharesChecks, sharesFault}
 use Rattle.desk.specs.declared.Desk.{Desk}
 use Rattle.desk.specs.Desk.{placeAt}
-use Rattle.desk.specs.Calls.{Call, ask, compare, fill, write, change, placeFault, numberOf}
+use Rattle.desk.specs.Calls.{Call, ask, compare, compareShares, fill, write, change, placeFault, numberOf}
 use Rattle.demands.specs.History.{questionNumbers, fillNumbers, changeNumbers, numbers}
 use Rattle.demands.specs.Demands.{OneOf}
 
@@ -110,14 +111,19 @@ known-place : (ns : List ℕ) (i n : ℕ) → Known (1 ∷ ns) n → Known (1 �
 unfolding among allPass
 known-place ns i n k = known-first (1 ∷ ns) _ _ (known-fault (1 ∷ ns) _ tt) k
 
+-- of both places: 22 of either before them
+known-pair : (ns : List ℕ) (p q : Place) (n : ℕ) → Known (22 ∷ ns) n → Known (22 ∷ ns) (firstFault (emptyFault p) (firstFault (emptyFault q) n))
+unfolding among
+known-pair ns p q n k =
+    known-first (22 ∷ ns) _ _
+    (by-test (Known (22 ∷ ns)) (p .loaded) (λ _. tt) (λ _. tt))
+    (known-first (22 ∷ ns) _ _ (by-test (Known (22 ∷ ns)) (q .loaded) (λ _. tt) (λ _. tt)) k)
+
 known : (d : Desk) (c : Call) → Known (numbers c) (numberOf d c)
-unfolding compareFault pairChecks writeFault among allPass
+unfolding compareFault pairChecks sharesFault sharesChecks writeFault among allPass
 known d (ask i q) = known-place (questionNumbers q) i _ (known-question (placeAt d i) q)
-known d compare =
-    let ns = numbers compare in
-    known-first ns _ _
-    (by-test (Known ns) (d .first .loaded) (λ _. tt) (λ _. tt))
-    (known-first ns _ _ (by-test (Known ns) (d .second .loaded) (λ _. tt) (λ _. tt)) (known-fault ns _ tt))
+known d compare = known-pair (23 ∷ 24 ∷ 25 ∷ []) (d .first) (d .second) _ (known-fault (numbers compare) _ tt)
+known d compareShares = known-pair (23 ∷ 24 ∷ 35 ∷ []) (d .first) (d .second) _ (known-fault (numbers compareShares) _ tt)
 known d (fill i f out) = known-place (fillNumbers f) i _ (known-fill (placeAt d i) f _)
 known d (write out) = known-fault (numbers (write out)) _ tt
 known d (change i c) = known-place (changeNumbers c) i _ (known-change (placeAt d i) c)
@@ -133,6 +139,7 @@ unlisted (ask i measures) h = h
 unlisted (ask i brier) h = h
 unlisted (ask i spread) h = h
 unlisted compare h = h
+unlisted compareShares h = h
 unlisted (fill i pool out) h = h
 unlisted (write out) h = h
 unlisted (change i (load b j)) h = h

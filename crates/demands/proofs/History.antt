@@ -16,7 +16,7 @@ use Rattle.calls.specs.Calls.{Change, load, clear, changeFault}
 use Rattle.calls.proofs.Leaves.{by-fault, leaves-map}
 use Rattle.desk.specs.declared.Desk.{Desk}
 use Rattle.desk.specs.Desk.{SoundDesk}
-use Rattle.desk.specs.Calls.{Call, ask, compare, fill, write, change, after}
+use Rattle.desk.specs.Calls.{Call, ask, compare, compareShares, fill, write, change, after}
 use Rattle.desk.proofs.Soundness.{read-sound}
 use Rattle.desk.proofs.Number.{Number, one, two, neither, number}
 use Rattle.demands.specs.History.{deskFrom, deskAfter, Held, nothing, table, filled, heldThen, heldAfter, heldFrom, held, placed}
@@ -43,6 +43,7 @@ after-change h k c (neither {i} m n e) = rw (e, ne-eqb i 1 m, ne-eqb i 2 n)
 after-call : (h k : Held) (c : Call) → after (deskOf h k) c ≡ deskOf (heldAfter 1 h c) (heldAfter 2 k c)
 after-call h k (ask i q) = refl
 after-call h k compare = refl
+after-call h k compareShares = refl
 after-call h k (fill i f out) = refl
 after-call h k (write out) = refl
 after-call h k (change i c) = after-change h k c (number i)
@@ -72,6 +73,7 @@ then-sound h clear s = tt
 held-sound : (i : ℕ) (h : Held) (c : Call) → SoundHeld h → SoundHeld (heldAfter i h c)
 held-sound i h (ask k q) s = s
 held-sound i h compare s = s
+held-sound i h compareShares s = s
 held-sound i h (fill k f out) s = s
 held-sound i h (write out) s = s
 held-sound i h (change k c) s = by-test SoundHeld (eqb k i) (λ _. then-sound h c s) (λ _. s)

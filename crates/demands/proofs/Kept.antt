@@ -18,7 +18,7 @@ use Rattle.calls.specs.Calls.{Filling, pool, fillSize, filledWith, fillFault}
 use Rattle.calls.proofs.Leaves.{by-fault}
 use Rattle.desk.specs.declared.Desk.{Desk}
 use Rattle.desk.specs.Desk.{tableAt, withPlace}
-use Rattle.desk.specs.Calls.{Call, ask, compare, fill, write, change, placeFault, numberOf, after, lent, lentAfter, lentSize, loadedTables}
+use Rattle.desk.specs.Calls.{Call, ask, compare, compareShares, fill, write, change, placeFault, numberOf, after, lent, lentAfter, lentSize, loadedTables}
 use Rattle.desk.proofs.Number.{Number, one, two, neither, number}
 use Rattle.demands.specs.History.{Keeps}
 
@@ -35,6 +35,7 @@ buffer-left (suc n) ts buf k = refl
 pub refused-kept : (d : Desk) (c : Call) → (numberOf d c ≡ 0 → ⊥) → (after d c ≡ d) × (lentAfter d c ≡ lent c)
 refused-kept d (ask i q) k = (refl, refl)
 refused-kept d compare k = (refl, refl)
+refused-kept d compareShares k = (refl, refl)
 refused-kept d (fill i f out) k = (refl, left _ _ _ k)
 refused-kept d (write out) k = (refl, buffer-left _ _ _ k)
 refused-kept d (change i c) k = (left _ _ _ k, refl)
@@ -58,6 +59,7 @@ pub written-only : (d : Desk) (c : Call) → Behind (lentSize d c) (lent c) (len
 unfolding fillFault writeFault
 written-only d (ask i q) = (refl, refl)
 written-only d compare = (refl, refl)
+written-only d compareShares = (refl, refl)
 written-only d (fill i f out) =
     by-fault (Behind (fillSize (tableAt d i) f) out) (numberOf d (fill i f out))
     (λ e. behind-filled (tableAt d i) f out (held _ (held-first _ _ (held-first _ _ e .1) .1) .0))
@@ -81,6 +83,7 @@ others d m p (neither _ _ e) = (λ k. rw e, λ k. rw e)
 pub others-kept : (d : Desk) (c : Call) → (Keeps 1 c → after d c .first ≡ d .first) × (Keeps 2 c → after d c .second ≡ d .second)
 others-kept d (ask i q) = (λ k. refl, λ k. refl)
 others-kept d compare = (λ k. refl, λ k. refl)
+others-kept d compareShares = (λ k. refl, λ k. refl)
 others-kept d (fill i f out) = (λ k. refl, λ k. refl)
 others-kept d (write out) = (λ k. refl, λ k. refl)
 others-kept d (change i c) = others d _ _ (number i)

@@ -1,18 +1,19 @@
 -- The worked tables, by computation.
-use Prim.Native.Nat.{_≤_, _<_}
+use Prim.Native.Nat.{ℕ, _≤_, _<_}
 use mathlib.Core.Path.{_≡_, refl, sym, _∙_}
 use mathlib.Core.Bool.{Bool, true, false}
 use mathlib.Core.List.{[], _∷_}
 use native.Mathlib.Omega.{arith}
 use lib.Dec.{lit<, lit≤}
-use Rattle.table.specs.Table.{Table, occupied, survivorsIn, defaultsIn, obligorsIn}
-use Rattle.table.specs.Place.{gradesFrom, placeOf}
+use Rattle.table.specs.Table.{Table, Every, Counted, Mixed, occupied, survivorsIn, defaultsIn, obligorsIn}
+use Rattle.table.specs.Place.{gradesFrom, tableOf, placeOf}
 use Rattle.table.proofs.Placed.{table-placed}
 use Rattle.book.specs.Bytes.{twoAt, fourAt, twoBytes, fourBytes}
 use Rattle.book.specs.Checks.{fault, firstFault}
 use Rattle.book.specs.Layout.{headChecks, raterChecks, tableChecks, tablesFaultFrom}
 use Rattle.book.specs.Rows.{gradeIn, gradesIn, rowChecks, laterChecks, laterFault, rowsFault, totalChecks, tableFault}
 use Rattle.book.specs.Reading.{readFault}
+use Rattle.pooling.specs.Fraction.{ratio, sum}
 use Rattle.pooling.specs.Pool.{front, pool}
 use Rattle.pooling.specs.Band.{bandFrom}
 use Rattle.pooling.specs.Numbers.{gradesOf, numbersOf, repeating, pooledNumbers}
@@ -24,14 +25,19 @@ use Rattle.cutoff.specs.declared.Price.{Price}
 use Rattle.cutoff.specs.declared.Verdict.{Verdict}
 use Rattle.cutoff.specs.declared.Verdict.the-variants.{Equal, First, Second, Crossing}
 use Rattle.cutoff.proofs.Cost.{cheapestCost, cheapest-is, is-cheapest}
+use Rattle.shares.specs.Shares.{shareCost, cheapestShare, Below}
+use Rattle.shares.specs.Verdict.{neverDearerByShares, DearerByShares, IsVerdictByShares}
+use Rattle.shares.proofs.Shares.{cheapest-share, dearer-by-shares}
 use Rattle.measures.specs.Pairs.{concordant, discordant, tied}
 use Rattle.measures.specs.Measures.{measuresOf}
-use Rattle.calls.specs.Answers.{Answer, accepted, refused}
+use Rattle.calls.specs.Answers.{Answer, accepted, refused, Limited}
 use Rattle.calls.specs.Calls.{load, changeFault, compareFault, pairChecks}
+use Rattle.calls.specs.Shares.{sharesFault, sharesChecks}
 use Rattle.desk.specs.Calls.{change, numberOf}
 use Rattle.demands.specs.History.{deskFrom, deskAfter, heldFrom, held, table}
 use Rattle.demands.specs.Worked as worked
 use Rattle.demands.specs.Worked.{row, bookK, tableK, empty, bookOf, swappedK, five, fine, coarse, worstApart, bestApart, price, Between}
+use Rattle.demands.specs.Worked.{coarseTwice, bestApartTwice, manySurvived, manyDefaulted, OnShares}
 
 -- Books, as they stand in the bytes: K, those of R-4's case line, and K with two rates swapped.
 read :
@@ -57,15 +63,26 @@ kind-of (First p) = (p, refl)
 kind-of (Second p) = (p, refl)
 kind-of (Crossing p q) = (p, q, refl)
 
-module _ (t₁ t₂ : Table) (e : compareFault (placeOf t₁) (placeOf t₂) ≡ 0) where
-  kind : (r : Answer Verdict) → Between t₁ t₂ r → OfKind (neverDearer t₁ t₂) (neverDearer t₂ t₁) r
-  kind (accepted v) c =
-      let i : IsVerdict t₁ t₂ v = simp table-placed at (c .1) in
-      rw (i .first, i .second) at (kind-of v)
-  kind (refused n) c = absurd (c .1 (sym (c .0) ∙ e))
+-- an answer that is limited to verdicts of one kind
+kind : {P : Verdict → Type 0} {n : ℕ} {x y : Bool} → n ≡ 0 → ((v : Verdict) → P v → (callsFirst v ≡ x) × (callsSecond v ≡ y))
+    → (r : Answer Verdict) → Limited n P r → OfKind x y r
+kind e f (accepted v) c = let i = f v (c .1) in rw (i .0, i .1) at (kind-of v)
+kind e f (refused n) c = absurd (c .1 (sym (c .0) ∙ e))
 
-  allowed : (v : Verdict) → IsVerdict t₁ t₂ v → Between t₁ t₂ (accepted v)
-  allowed v i = (e, simp table-placed i)
+module _ (t₁ t₂ : Table) where
+  counted : (v : Verdict) → IsVerdict (tableOf (placeOf t₁)) (tableOf (placeOf t₂)) v
+      → (callsFirst v ≡ neverDearer t₁ t₂) × (callsSecond v ≡ neverDearer t₂ t₁)
+  counted v c = let i : IsVerdict t₁ t₂ v = simp table-placed at c in (i .first, i .second)
+
+  allowed : compareFault (placeOf t₁) (placeOf t₂) ≡ 0 → (v : Verdict) → IsVerdict t₁ t₂ v → Between t₁ t₂ (accepted v)
+  allowed e v i = (e, simp table-placed i)
+
+  shared : (v : Verdict) → IsVerdictByShares (tableOf (placeOf t₁)) (tableOf (placeOf t₂)) v
+      → (callsFirst v ≡ neverDearerByShares t₁ t₂) × (callsSecond v ≡ neverDearerByShares t₂ t₁)
+  shared v c = let i : IsVerdictByShares t₁ t₂ v = simp table-placed at c in (i .first, i .second)
+
+  allowed-shares : sharesFault (placeOf t₁) (placeOf t₂) ≡ 0 → (v : Verdict) → IsVerdictByShares t₁ t₂ v → OnShares t₁ t₂ (accepted v)
+  allowed-shares e v i = (e, simp table-placed i)
 
 dearer : (t₁ t₂ : Table) (p : Price) → p .u ≤ 1_000_000 → p .v ≤ 1_000_000
     → cheapestCost t₂ (p .u) (p .v) < cheapestCost t₁ (p .u) (p .v) → DearerAt t₁ t₂ p
@@ -75,8 +92,23 @@ dearer t₁ t₂ p u v h = record {
   more = λ c₁ c₂ i₁ i₂. omega (arith, is-cheapest t₁ (p .u) (p .v) c₁ .0 i₁, is-cheapest t₂ (p .u) (p .v) c₂ .0 i₂);
 }
 
+mixed : {t : Table} → Every Counted t → 1 ≤ defaultsIn t → 1 ≤ survivorsIn t → Mixed t
+mixed counted defaulted survived = record { counted = counted; defaulted = defaulted; survived = survived }
+
+dearer-shares : (t₁ t₂ : Table) → Mixed t₁ → Mixed t₂ → (p : Price) → p .u ≤ 2_500_000_000 → p .v ≤ 2_500_000_000
+    → Below (cheapestShare t₂ (p .u) (p .v)) (cheapestShare t₁ (p .u) (p .v)) → DearerByShares t₁ t₂ p
+dearer-shares t₁ t₂ mixed₁ mixed₂ p u v h = record {
+  missed = u;
+  turned-away = v;
+  more = dearer-by-shares t₁ t₂ mixed₁ mixed₂ (p .u) (p .v)
+      (λ k. omega (arith, k _ _ (cheapest-share t₁ (p .u) (p .v)) (cheapest-share t₂ (p .u) (p .v))));
+}
+
+absurd-less : {n : ℕ} → n < n → ⊥
+absurd-less h = omega arith
+
 pub Worked : worked.Worked
-unfolding pool front bandFrom gradesOf numbersOf occupied repeating pooledNumbers ratesIn defaultsIn survivorsIn obligorsIn concordant discordant tied measuresOf turnedAway cost best cheapestOf all compareFault pairChecks rowChecks laterChecks laterFault rowsFault totalChecks tableFault fault firstFault placeOf gradesFrom
+unfolding pool front bandFrom gradesOf numbersOf occupied repeating pooledNumbers ratesIn defaultsIn survivorsIn obligorsIn concordant discordant tied measuresOf turnedAway cost best cheapestOf all compareFault pairChecks sharesFault sharesChecks shareCost cheapestShare sum ratio rowChecks laterChecks laterFault rowsFault totalChecks tableFault fault firstFault placeOf gradesFrom
 Worked = record {
   a-read = read .0;
   a-pooled = refl;
@@ -93,14 +125,14 @@ Worked = record {
   f-pietra = (refl, refl);
   r1-plus = (refl, refl, refl, refl);
   r1-minus = (refl, refl, refl, refl);
-  g = kind fine coarse refl;
+  g = kind refl (counted fine coarse);
   g-shown = allowed fine coarse refl _ record {
     first = refl;
     second = refl;
     first-dearer = λ p h. absurd h;
     second-dearer = λ p h. rw h (dearer coarse fine (price 1 1) (lit≤ tt) (lit≤ tt) (lit< tt));
   };
-  h = kind worstApart bestApart refl;
+  h = kind refl (counted worstApart bestApart);
   h-shown = allowed worstApart bestApart refl _ record {
     first = refl;
     second = refl;
@@ -109,7 +141,7 @@ Worked = record {
   };
   h-first-dearer = (cheapest-is worstApart 1 1, cheapest-is bestApart 1 1);
   h-second-dearer = (cheapest-is worstApart 1 3, cheapest-is bestApart 1 3);
-  i = kind five five refl;
+  i = kind refl (counted five five);
   i-shown = allowed five five refl _ record {
     first = refl;
     second = refl;
@@ -137,4 +169,41 @@ Worked = record {
   r5-later-row = refl;
   r5-nine = refl;
   r5-eleven = refl;
+  r6-equal = kind refl (shared coarse coarseTwice);
+  r6-equal-shown = allowed-shares coarse coarseTwice refl _ record {
+    first = refl;
+    second = refl;
+    first-dearer = λ p h. absurd h;
+    second-dearer = λ p h. absurd h;
+  };
+  r6-counts = refl;
+  r6-first = kind refl (shared fine coarseTwice);
+  r6-first-shown = allowed-shares fine coarseTwice refl _ record {
+    first = refl;
+    second = refl;
+    first-dearer = λ p h. absurd h;
+    second-dearer = λ p h. rw h (dearer-shares coarseTwice fine (mixed (lit≤ tt, (lit≤ tt, tt)) (lit≤ tt) (lit≤ tt))
+        (mixed (lit≤ tt, (lit≤ tt, (lit≤ tt, tt))) (lit≤ tt) (lit≤ tt)) (price 1 1) (lit≤ tt) (lit≤ tt) (lit< tt));
+  };
+  r6-crossing = kind refl (shared worstApart bestApartTwice);
+  r6-crossing-shown = allowed-shares worstApart bestApartTwice refl _ record {
+    first = refl;
+    second = refl;
+    first-dearer = λ p h. rw h (dearer-shares worstApart bestApartTwice (mixed (lit≤ tt, (lit≤ tt, tt)) (lit≤ tt) (lit≤ tt))
+        (mixed (lit≤ tt, (lit≤ tt, tt)) (lit≤ tt) (lit≤ tt)) (price 1 1) (lit≤ tt) (lit≤ tt) (lit< tt));
+    second-dearer = λ p h. rw h (dearer-shares bestApartTwice worstApart (mixed (lit≤ tt, (lit≤ tt, tt)) (lit≤ tt) (lit≤ tt))
+        (mixed (lit≤ tt, (lit≤ tt, tt)) (lit≤ tt) (lit≤ tt)) (price 1 3) (lit≤ tt) (lit≤ tt) (lit< tt));
+  };
+  r6-unlike = kind refl (shared manySurvived manyDefaulted);
+  r6-unlike-turned = kind refl (shared manyDefaulted manySurvived);
+  r6-unlike-costs = (cheapest-share manySurvived 1 1, cheapest-share manyDefaulted 1 1);
+  r6-nothing-shown = λ q c.
+      let i : IsVerdictByShares worstApart bestApartTwice (Crossing (price 0 0) q) = simp table-placed at (c .1) in
+      absurd-less (i .first-dearer (price 0 0) refl .more _ _ (cheapest-share worstApart 0 0) (cheapest-share bestApartTwice 0 0));
+  r6-costs = (cheapest-share worstApart 1 3, cheapest-share bestApartTwice 1 3);
+  r6-most = refl;
+  r6-first-larger = refl;
+  r6-second-larger = refl;
+  r6-after-24 = (refl, refl);
+  r6-after-23 = (refl, refl);
 }

@@ -6,7 +6,7 @@ use mathlib.Core.Bool.{false}
 use mathlib.Core.Logic.{_⊎_}
 use mathlib.Core.List.{List, [], _∷_, _++_}
 use lib.ListN.{length, drop, take, getD}
-use Rattle.table.specs.Table.{Table, Every, Sound, occupied, defaultsIn, survivorsIn}
+use Rattle.table.specs.Table.{Table, Every, Sound, Mixed, occupied, defaultsIn, survivorsIn, obligorsIn}
 use Rattle.table.specs.Place.{blank}
 use Rattle.book.specs.Bytes.{Byte}
 use Rattle.book.specs.Checks.{fault}
@@ -19,15 +19,17 @@ use Rattle.book.specs.Claims as book
 use Rattle.pooling.specs.Numbers.{ratesAtOccupied}
 use Rattle.pooling.specs.Regression.{IsRegression}
 use Rattle.pooling.specs.Claims.{RepeatsNextBetter, RepeatsBest}
-use Rattle.cutoff.specs.Verdict.{Settles}
+use Rattle.cutoff.specs.Verdict.{callsFirst, callsSecond, Settles}
 use Rattle.cutoff.specs.declared.Verdict.{Verdict}
 use Rattle.cutoff.specs.Claims as cutoff
+use Rattle.shares.specs.Verdict.{SettlesByShares}
+use Rattle.shares.specs.Claims as shares
 use Rattle.measures.specs.Claims as measuring
 use Rattle.calls.specs.Answers.{Answer, accepted, refused}
 use Rattle.calls.specs.Calls.{Question, measures, pool, load}
 use Rattle.desk.specs.declared.Desk.{Desk}
 use Rattle.desk.specs.Desk.{placeAt, tableAt, SoundDesk}
-use Rattle.desk.specs.Calls.{Call, ask, fill, write, change, numberOf, after, lent, lentAfter, lentSize, loadedTables, Compares}
+use Rattle.desk.specs.Calls.{Call, ask, fill, write, change, numberOf, after, lent, lentAfter, lentSize, loadedTables, Compares, ComparesByShares}
 use Rattle.demands.specs.History.{deskAfter, nothing, table, filled, held, placed, numbers, Keeps}
 
 -- What calls leave.
@@ -151,7 +153,7 @@ MeasuresArePublished =
 -- A table that measures answers for has a default and a survivor, as the definitions need.
 abbrev pub MeasuredTablesAreMixed : Type 0
 MeasuredTablesAreMixed =
-    (d : Desk) → SoundDesk d → (i : ℕ) → numberOf d (ask i measures) ≡ 0 → measuring.Mixed (tableAt d i)
+    (d : Desk) → SoundDesk d → (i : ℕ) → numberOf d (ask i measures) ≡ 0 → Mixed (tableAt d i)
 
 -- "Pooled rates are the monotone regression: of all never-falling lists of fractions that one ALONE has the smallest obligor-weighted
 -- squared error." Of the rates that an accepted pool writes. R-4: "The smallest squared error and its uniqueness concern the occupied grades."
@@ -182,6 +184,37 @@ CompareIsRight =
     (calls : List Call) (t₁ t₂ : Table) → held 1 calls ≡ table t₁ → held 2 calls ≡ table t₂
     → defaultsIn t₁ ≡ defaultsIn t₂ → survivorsIn t₁ ≡ survivorsIn t₂ → 1 ≤ defaultsIn t₁ → 1 ≤ survivorsIn t₁
     → (r : Answer Verdict) → Compares (deskAfter calls) r → SettledBy t₁ t₂ r
+
+-- R-6, in the words of demand 3: "It gives the same four verdicts, under the same meaning over all whole-number prices. The pairs carried have
+-- prices up to 2,500,000,000." "It takes tables of at most 100,000 obligors": of any two such raters, whatever their totals. Of every answer that
+-- the contract of the comparison on shares allows.
+abbrev pub SettledByShares : Table → Table → Answer Verdict → Type 0
+SettledByShares t₁ t₂ (accepted v) = SettlesByShares t₁ t₂ v
+SettledByShares t₁ t₂ (refused n) = ⊥
+
+abbrev pub CompareSharesIsRight : Type 0
+CompareSharesIsRight =
+    (calls : List Call) (t₁ t₂ : Table) → held 1 calls ≡ table t₁ → held 2 calls ≡ table t₂
+    → 1 ≤ defaultsIn t₁ → 1 ≤ survivorsIn t₁ → 1 ≤ defaultsIn t₂ → 1 ≤ survivorsIn t₂ → obligorsIn t₁ ≤ 100_000 → obligorsIn t₂ ≤ 100_000
+    → (r : Answer Verdict) → ComparesByShares (deskAfter calls) r → SettledByShares t₁ t₂ r
+
+-- "On tables with equal totals it must agree in verdict with the first comparison": where both answer, they answer the same kind.
+abbrev pub SameKind : Answer Verdict → Answer Verdict → Type 0
+SameKind (accepted v) (accepted w) = (callsFirst v ≡ callsFirst w) × (callsSecond v ≡ callsSecond w)
+SameKind (accepted v) (refused n) = Unit {0}
+SameKind (refused n) s = Unit {0}
+
+abbrev pub ComparisonsAgree : Type 0
+ComparisonsAgree =
+    (d : Desk) → SoundDesk d → (r s : Answer Verdict) → Compares d r → ComparesByShares d s → SameKind r s
+
+-- Every table has a cheapest cost on shares at every pair of prices, and one, which is a proper fraction where the comparison takes the table.
+abbrev pub EveryTableHasOneCheapestShare : Type 0
+EveryTableHasOneCheapestShare = shares.CheapestShareIsCheapest × shares.CheapestShareIsUnique × shares.ShareCostsAreProper
+
+-- However large the books: tables j and k times as large are as good as the tables, and have their verdict.
+abbrev pub SizesPlayNoPart : Type 0
+SizesPlayNoPart = shares.MultiplesAreEqual × shares.MultiplesAreAsGood × shares.MultiplesKeepTheVerdict
 
 -- "Cheapest means every other cutoff of that table costs at least as much": every table has such a cost at every pair of prices, and one.
 abbrev pub EveryTableHasOneCheapestCost : Type 0
@@ -217,5 +250,9 @@ pub record Demands : Type 0 where
   pub pool-writes-the-regression : PoolWritesTheRegression
   pub pool-repeats-for-empty-grades : PoolRepeatsForEmptyGrades
   pub compare-is-right : CompareIsRight
+  pub compare-shares-is-right : CompareSharesIsRight
+  pub comparisons-agree : ComparisonsAgree
+  pub every-table-has-one-cheapest-share : EveryTableHasOneCheapestShare
+  pub sizes-play-no-part : SizesPlayNoPart
   pub every-table-has-one-cheapest-cost : EveryTableHasOneCheapestCost
   pub pooling-keeps-the-cheapest-cost : PoolingKeepsTheCheapestCost

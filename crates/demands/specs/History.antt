@@ -13,7 +13,7 @@ use Rattle.calls.specs.Answers.{leaves}
 use Rattle.calls.specs.Calls.{Question, cheapest, measures, brier, spread, Filling, pool, Change, load, clear}
 use Rattle.desk.specs.declared.Desk.{Desk}
 use Rattle.desk.specs.Desk.{freshDesk}
-use Rattle.desk.specs.Calls.{Call, ask, compare, fill, write, change, after}
+use Rattle.desk.specs.Calls.{Call, ask, compare, compareShares, fill, write, change, after}
 
 -- The desk.
 
@@ -42,6 +42,7 @@ changeNumbers clear = 22 ∷ []
 abbrev pub numbers : Call → List ℕ
 numbers (ask i q) = 1 ∷ questionNumbers q
 numbers compare = 22 ∷ 23 ∷ 24 ∷ 25 ∷ []
+numbers compareShares = 22 ∷ 23 ∷ 24 ∷ 35 ∷ []
 numbers (fill i f out) = 1 ∷ fillNumbers f
 numbers (write out) = 22 ∷ 13 ∷ []
 numbers (change i c) = 1 ∷ changeNumbers c
@@ -50,6 +51,7 @@ numbers (change i c) = 1 ∷ changeNumbers c
 abbrev pub Keeps : ℕ → Call → Type 0
 Keeps i (ask k q) = Unit {0}
 Keeps i compare = Unit {0}
+Keeps i compareShares = Unit {0}
 Keeps i (fill k f out) = Unit {0}
 Keeps i (write out) = Unit {0}
 Keeps i (change k c) = k ≡ i → ⊥
@@ -73,6 +75,7 @@ heldThen h clear = nothing
 abbrev pub heldAfter : ℕ → Held → Call → Held
 heldAfter i h (ask k q) = h
 heldAfter i h compare = h
+heldAfter i h compareShares = h
 heldAfter i h (fill k f out) = h
 heldAfter i h (write out) = h
 heldAfter i h (change k c) = cond (eqb k i) (heldThen h c) h

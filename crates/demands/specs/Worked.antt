@@ -16,11 +16,13 @@ use Rattle.pooling.specs.Regression.{pooledRates}
 use Rattle.cutoff.specs.Cutoff.{IsCheapest, cheapestOf}
 use Rattle.cutoff.specs.declared.Price.{Price}
 use Rattle.cutoff.specs.declared.Verdict.{Verdict}
-use Rattle.cutoff.specs.declared.Verdict.the-variants.{Equal, First, Crossing}
+use Rattle.cutoff.specs.declared.Verdict.the-variants.{Equal, First, Second, Crossing}
+use Rattle.shares.specs.Shares.{IsCheapestShare}
 use Rattle.measures.specs.Pairs.{concordant, discordant, tied}
 use Rattle.measures.specs.Measures.{height, measuresOf}
 use Rattle.calls.specs.Answers.{Answer, accepted}
-use Rattle.calls.specs.Calls.{load, Compared}
+use Rattle.calls.specs.Calls.{load, compareFault, Compared}
+use Rattle.calls.specs.Shares.{sharesFault, ComparedByShares}
 use Rattle.desk.specs.Calls.{change, numberOf}
 use Rattle.demands.specs.History.{deskAfter, held, table}
 
@@ -103,6 +105,24 @@ price u v = record { u = u; v = v }
 abbrev pub Between : Table → Table → Answer Verdict → Type 0
 Between t₁ t₂ r = Compared (placeOf t₁) (placeOf t₂) r
 
+-- R-6: `coarse` and `bestApart` twice over: each grade has twice the obligors and twice the defaults
+abbrev pub coarseTwice : Table
+coarseTwice = row 6 2 ∷ row 6 4 ∷ []
+
+abbrev pub bestApartTwice : Table
+bestApartTwice = row 4 0 ∷ row 8 6 ∷ []
+
+-- two scales with many survivors and with many defaults: D 2 and S 8, D 8 and S 2
+abbrev pub manySurvived : Table
+manySurvived = row 7 1 ∷ row 3 1 ∷ []
+
+abbrev pub manyDefaulted : Table
+manyDefaulted = row 5 4 ∷ row 5 4 ∷ []
+
+-- What the comparison on shares may answer where the first place holds t₁ and the second t₂.
+abbrev pub OnShares : Table → Table → Answer Verdict → Type 0
+OnShares t₁ t₂ r = ComparedByShares (placeOf t₁) (placeOf t₂) r
+
 pub record Worked : Type 0 where
   -- K pools as printed.
   pub a-read : held 1 (change 1 (load bookK 1) ∷ []) ≡ table tableK
@@ -170,3 +190,28 @@ pub record Worked : Type 0 where
   pub r5-later-row : tableFault (announcing 9 5 ∷ announcing 9 4 ∷ nobodys ∷ []) ≡ 34
   pub r5-nine : tableFault (announcing 0 5 ∷ announcing 0 4 ∷ []) ≡ 34
   pub r5-eleven : tableFault (announcing 1_000_000 5 ∷ announcing 1 4 ∷ []) ≡ 34
+  -- R-6: a scale and the same twice over are Equal, where compare refuses with 25; g and h against the scale twice over: First, and Crossing as the
+  -- same two pairs of prices show
+  pub r6-equal : (r : Answer Verdict) → OnShares coarse coarseTwice r → r ≡ accepted Equal
+  pub r6-equal-shown : OnShares coarse coarseTwice (accepted Equal)
+  pub r6-counts : compareFault (placeOf coarse) (placeOf coarseTwice) ≡ 25
+  pub r6-first : (r : Answer Verdict) → OnShares fine coarseTwice r → (p : Price) × (r ≡ accepted (First p))
+  pub r6-first-shown : OnShares fine coarseTwice (accepted (First (price 1 1)))
+  pub r6-crossing : (r : Answer Verdict) → OnShares worstApart bestApartTwice r → (p q : Price) × (r ≡ accepted (Crossing p q))
+  pub r6-crossing-shown : OnShares worstApart bestApartTwice (accepted (Crossing (price 1 1) (price 1 3)))
+  -- D and S differ, within a table and between the two: First, and Second the other way round; with D and S exchanged they would cross
+  pub r6-unlike : (r : Answer Verdict) → OnShares manySurvived manyDefaulted r → (p : Price) × (r ≡ accepted (First p))
+  pub r6-unlike-turned : (r : Answer Verdict) → OnShares manyDefaulted manySurvived r → (p : Price) × (r ≡ accepted (Second p))
+  pub r6-unlike-costs : IsCheapestShare manySurvived 1 1 (ratio 12 16) × IsCheapestShare manyDefaulted 1 1 (ratio 16 16)
+  -- prices at which both cost the same, here nothing, show nothing
+  pub r6-nothing-shown : (q : Price) → OnShares worstApart bestApartTwice (accepted (Crossing (price 0 0) q)) → ⊥
+  -- what these cost at the second pair: 1 times 2/3, two of three defaults missed; 1 times 6/6, all defaults missed, or 3 times 2/6
+  pub r6-costs : IsCheapestShare worstApart 1 3 (ratio 6 9) × IsCheapestShare bestApartTwice 1 3 (ratio 36 36)
+  -- "It takes tables of at most 100,000 obligors"; a larger one is 35 in either place, "after 24"
+  pub r6-most : sharesFault (placeOf (row 100_000 1 ∷ [])) (placeOf (row 100_000 1 ∷ [])) ≡ 0
+  pub r6-first-larger : sharesFault (placeOf (row 100_001 1 ∷ [])) (placeOf coarse) ≡ 35
+  pub r6-second-larger : sharesFault (placeOf coarse) (placeOf (row 100_001 1 ∷ [])) ≡ 35
+  pub r6-after-24 : (sharesFault (placeOf (row 100_001 1 ∷ [])) (placeOf (row 2 2 ∷ [])) ≡ 24)
+      × (sharesFault (placeOf (row 2 2 ∷ [])) (placeOf (row 100_001 1 ∷ [])) ≡ 24)
+  pub r6-after-23 : (sharesFault (placeOf (row 100_001 1 ∷ [])) (placeOf (row 2 0 ∷ [])) ≡ 23)
+      × (sharesFault (placeOf (row 2 0 ∷ [])) (placeOf (row 100_001 1 ∷ [])) ≡ 23)

@@ -72,6 +72,15 @@ module _ (d : Desk) (i : ℕ) (s : SoundDesk d) {w : List ℕ} (words : w ≡ wo
         ∙ ap (λ (p : Place). leaves n out (filledWith (tableOf p) f out)) place-is
         ∙ ap (λ (m : ℕ). leaves m out (filledWith (tableAt d i) f out)) fill-number
 
+-- Both places.
+module _ (d : Desk) (s : SoundDesk d) {v w : List ℕ} (words₁ : v ≡ wordsOf (d .first)) (words₂ : w ≡ wordsOf (d .second)) where
+  pub both-places : IsPlace v × IsPlace w
+  both-places = (words-place d 1 s words₁, words-place d 2 s words₂)
+
+  -- what is said of the places that the words stand for
+  pub of-both : (P : Place → Place → Type 0) → P (placeIn v) (placeIn w) → P (d .first) (d .second)
+  of-both P h = subst (λ (q : Place). P (d .first) q) (place-is d 2 s words₂) (subst (λ (p : Place). P p (placeIn w)) (place-is d 1 s words₁) h)
+
 -- A written book, whose fault is n.
 pub says-written : (n : ℕ) (ts : List Table) → writtenSays (lengthOr n ts) ≡ answer n (bookSize ts)
 unfolding lengthOr

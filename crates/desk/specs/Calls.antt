@@ -9,10 +9,12 @@ use Rattle.book.specs.Encode.{bookSize}
 use Rattle.book.specs.Writing.{tablesOf, writeFault, bufferAfter}
 use Rattle.cutoff.specs.Verdict.{IsVerdict}
 use Rattle.cutoff.specs.declared.Verdict.{Verdict}
+use Rattle.shares.specs.Verdict.{IsVerdictByShares}
 use Rattle.spread.specs.Spread.{IsSpread}
 use Rattle.spread.specs.declared.Spread.{Spread}
 use Rattle.calls.specs.Answers.{Answer, leaves, Limited}
 use Rattle.calls.specs.Calls.{Question, spread, questionFault, Filling, fillSize, filledWith, fillFault, Change, changedTo, changeFault, compareFault}
+use Rattle.calls.specs.Shares.{sharesFault}
 use Rattle.desk.specs.declared.Desk.{Desk}
 use Rattle.desk.specs.Desk.{placeAt, tableAt, withPlace}
 
@@ -20,6 +22,7 @@ pub data Call : Type 0 where
   -- asks place i, or both
   ask : (i : ℕ) → Question → Call
   compare : Call
+  compareShares : Call
   -- fills a lent buffer from place i, or from both
   fill : (i : ℕ) → Filling → (out : List ℕ) → Call
   write : (out : List ℕ) → Call
@@ -38,6 +41,7 @@ loadedTables d = tablesOf (d .first) (d .second)
 abbrev pub numberOf : Desk → Call → ℕ
 numberOf d (ask i q) = firstFault (placeFault i) (questionFault (placeAt d i) q)
 numberOf d compare = compareFault (d .first) (d .second)
+numberOf d compareShares = sharesFault (d .first) (d .second)
 numberOf d (fill i f out) = firstFault (placeFault i) (fillFault (placeAt d i) f (length out))
 numberOf d (write out) = writeFault (loadedTables d) (length out)
 numberOf d (change i c) = firstFault (placeFault i) (changeFault (placeAt d i) c)
@@ -46,6 +50,7 @@ numberOf d (change i c) = firstFault (placeFault i) (changeFault (placeAt d i) c
 abbrev pub after : Desk → Call → Desk
 after d (ask i q) = d
 after d compare = d
+after d compareShares = d
 after d (fill i f out) = d
 after d (write out) = d
 after d (change i c) = leaves (numberOf d (change i c)) d (withPlace d i (changedTo c))
@@ -55,6 +60,7 @@ after d (change i c) = leaves (numberOf d (change i c)) d (withPlace d i (change
 abbrev pub lent : Call → List ℕ
 lent (ask i q) = []
 lent compare = []
+lent compareShares = []
 lent (fill i f out) = out
 lent (write out) = out
 lent (change i c) = []
@@ -62,6 +68,7 @@ lent (change i c) = []
 abbrev pub lentAfter : Desk → Call → List ℕ
 lentAfter d (ask i q) = []
 lentAfter d compare = []
+lentAfter d compareShares = []
 lentAfter d (fill i f out) = leaves (numberOf d (fill i f out)) out (filledWith (tableAt d i) f out)
 lentAfter d (write out) = bufferAfter (loadedTables d) out
 lentAfter d (change i c) = []
@@ -69,6 +76,7 @@ lentAfter d (change i c) = []
 abbrev pub lentSize : Desk → Call → ℕ
 lentSize d (ask i q) = 0
 lentSize d compare = 0
+lentSize d compareShares = 0
 lentSize d (fill i f out) = fillSize (tableAt d i) f
 lentSize d (write out) = bookSize (loadedTables d)
 lentSize d (change i c) = 0
@@ -77,6 +85,11 @@ lentSize d (change i c) = 0
 -- is free; its prices are at most 1,000,000 and its costs differ as said".
 abbrev pub Compares : Desk → Answer Verdict → Type 0
 Compares d r = Limited (numberOf d compare) (IsVerdict (tableAt d 1) (tableAt d 2)) r
+
+-- What the comparison on shares may answer. Refusals and the kind of verdict are given; the price pairs are limited only: "The pairs carried
+-- have prices up to 2,500,000,000".
+abbrev pub ComparesByShares : Desk → Answer Verdict → Type 0
+ComparesByShares d r = Limited (numberOf d compareShares) (IsVerdictByShares (tableAt d 1) (tableAt d 2)) r
 
 -- What spread may answer. Refusals are given; the floats are limited only: "within 1/2^36" and "within 1/2^29".
 abbrev pub Spreads : Desk → ℕ → Answer Spread → Type 0

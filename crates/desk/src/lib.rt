@@ -13,7 +13,7 @@ ghost use Rattle.calls.specs.Answers.{answer, leaves, cheapestSays, compareSays
 ghost use Rattle.calls.specs.Calls.{cheapest, measures, brier, pool, load, clear};
 ghost use Rattle.desk.specs.Desk.{freshDesk, placeAt, tableAt, withPlace, SoundDesk};
 ghost use Rattle.desk.specs.Answers.{ackSays, writtenSays};
-ghost use Rattle.desk.specs.Calls.{placeFault, ask, fill, write, change, numberOf, after, lentAfter, loadedTables, Compares, Spreads};
+ghost use Rattle.desk.specs.Calls.{placeFault, ask, fill, write, change, numberOf, after, lentAfter, loadedTables, Compares, ComparesByShares, Spreads};
 use book::Written;
 use calls::BrierAnswer;
 use calls::CheapestAnswer;
@@ -204,6 +204,17 @@ impl Desk {
         let first = self.first.words();
         let second = self.second.words();
         calls::compare(&first, &second)
+    }
+
+    // Which of the two scales is better on shares, for books of different sizes. Document 02 leaves open which price pairs the verdict carries,
+    // so the contract limits them: "The pairs carried have prices up to 2,500,000,000".
+    pub fn compare_shares(self) -> CompareAnswer
+        requires { ⌜ SoundDesk self ⌝ }
+        ensures { λ r. ⌜ ComparesByShares self (compareSays r) ⌝ }
+    {
+        let first = self.first.words();
+        let second = self.second.words();
+        calls::compare_shares(&first, &second)
     }
 
     // D, S and the four measures of the table in a place.

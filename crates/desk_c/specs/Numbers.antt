@@ -8,12 +8,13 @@ use Rattle.cutoff.specs.declared.CheapestCutoff.{CheapestCutoff}
 use Rattle.cutoff.specs.declared.Verdict.{Verdict}
 use Rattle.cutoff.specs.declared.Verdict.the-variants.{Equal, First, Second, Crossing}
 use Rattle.cutoff.specs.Verdict.{IsVerdict}
+use Rattle.shares.specs.Verdict.{IsVerdictByShares}
 use Rattle.measures.specs.declared.Measures.{Measures}
 use Rattle.measures.specs.declared.UnsignedFraction.{UnsignedFraction}
 use Rattle.spread.specs.declared.Spread.{Spread}
 use Rattle.desk_c.specs.Image.{tableOn}
 
--- What a call with the first fault n may leave in its buffer, where document 01 leaves the values of the answer freer: what was there,
+-- What a call with the first fault n may leave in its buffer, where the documents leave the values of the answer freer: what was there,
 -- or the numbers of an answer that is P.
 abbrev pub Left : {A B : Type 0} → ℕ → (A → Type 0) → (A → B) → B → B → Type 0
 Left {A = A} zero P numbers old new = (x : A) × P x × (new ≡ numbers x)
@@ -25,6 +26,10 @@ cutoffNumbers c = pos (c .cutoff) ∷ pos (c .cost) ∷ []
 -- what compare may answer of the desk in an image: a verdict on the tables in its two places
 abbrev pub VerdictOn : List ℕ → Verdict → Type 0
 VerdictOn w v = IsVerdict (tableOn w 1) (tableOn w 2) v
+
+-- and what the comparison on shares may answer
+abbrev pub VerdictOnShares : List ℕ → Verdict → Type 0
+VerdictOnShares w v = IsVerdictByShares (tableOn w 1) (tableOn w 2) v
 
 -- the kind; the pair at which the first costs more; the pair at which the second costs more. A pair that is not carried is 0, 0.
 abbrev pub verdictNumbers : Verdict → List ℕ

@@ -1,5 +1,5 @@
 -- Serves contracts of functions inside the library only: what is promised does not rest on it.
--- Parts of an image, by where they start.
+-- Parts of an image, by where they start, and what a comparison returns and leaves.
 use Prim.Native.Nat.{ℕ}
 use mathlib.Core.Bool.{cond}
 use mathlib.Core.List.{List}
@@ -7,6 +7,9 @@ use lib.Dec.{eqb}
 use lib.Seq.{paste}
 use Rattle.table.specs.declared.Place.{Place}
 use Rattle.table.specs.Words.{placeSize, wordsOf}
+use Rattle.cutoff.specs.declared.Verdict.{Verdict}
+use Rattle.calls.specs.Answers.{Answer, accepted, refused}
+use Rattle.desk_c.specs.Numbers.{verdictNumbers}
 
 -- how many numbers an image has
 abbrev pub deskSize : ℕ
@@ -19,3 +22,13 @@ startOf i = cond (eqb i 1) 0 placeSize
 -- an image in which the words from `at` on are those of p
 abbrev pub withWords : List ℕ → ℕ → Place → List ℕ
 withWords w at p = paste w at (wordsOf p) placeSize
+
+-- 0, or the refusal number
+abbrev pub numberSaid : {A : Type 0} → Answer A → ℕ
+numberSaid (accepted x) = 0
+numberSaid (refused n) = n
+
+-- the numbers of a verdict, or what was there
+abbrev pub verdictLeft : Answer Verdict → List ℕ → List ℕ
+verdictLeft (accepted v) old = verdictNumbers v
+verdictLeft (refused n) old = old

@@ -6,12 +6,13 @@ ghost use Rattle.cutoff.specs.Cutoff.{cheapestOf};
 ghost use Rattle.measures.specs.Measures.{measuresOf};
 ghost use Rattle.measures.specs.Brier.{brierOf};
 ghost use Rattle.spread.specs.Spread.{IsSpread};
-ghost use Rattle.calls.specs.Answers.{leaves};
+ghost use Rattle.calls.specs.Answers.{leaves, compareSays};
 ghost use Rattle.calls.specs.Calls.{cheapest, measures, brier, spread, pool, load, clear};
 ghost use Rattle.desk.specs.Desk.{freshDesk};
-ghost use Rattle.desk.specs.Calls.{ask, compare, fill, write, change, numberOf, after, lentAfter, loadedTables};
+ghost use Rattle.desk.specs.Calls.{ask, compare, compareShares, fill, write, change, numberOf, after, lentAfter, loadedTables};
 ghost use Rattle.desk_c.specs.Image.{imageOf, deskIn, tableOn, IsImage};
-ghost use Rattle.desk_c.specs.Numbers.{Left, cutoffNumbers, VerdictOn, verdictNumbers, measuresNumbers, fractionNumbers, spreadNumbers};
+ghost use Rattle.desk_c.specs.Numbers.{Left, cutoffNumbers, VerdictOn, VerdictOnShares, verdictNumbers, measuresNumbers, fractionNumbers, spreadNumbers};
+ghost use Rattle.desk_c.specs.Private.{numberSaid, verdictLeft};
 ghost use Rattle.desk_c.specs.Version.{version};
 ghost use Rattle.desk_c.specs.Claims.{Claims};
 
@@ -33,7 +34,7 @@ use desk::is_place;
 use refusals::NO_PLACE;
 use table::PLACE;
 
-const VERSION: u32 = 6;
+const VERSION: u32 = 7;
 
 // The version of this library.
 #[no_mangle]
@@ -45,7 +46,7 @@ pub extern "C" fn desk_version() -> u32
 
 // The same under a name with the number in it: a header of another version asks for another name, which the linker then misses.
 #[no_mangle]
-pub extern "C" fn desk_library_is_version_6() -> u32
+pub extern "C" fn desk_library_is_version_7() -> u32
     ensures { λ r. ⌜ r ≡ version ⌝ }
 {
     desk_version()
@@ -126,14 +127,11 @@ pub extern "C" fn desk_cheapest(
     }
 }
 
-// Which of the two scales is better. Document 01 leaves open which price pairs the verdict carries, so the contract limits them.
-#[no_mangle]
-pub extern "C" fn desk_compare(desk: &[u32; DESK], answer: &mut [u32; 5]) -> u32
-    requires { ⌜ IsImage (now desk) ⌝ }
-    ensures { λ r. ⌜ r ≡ numberOf (deskIn (now (desk .entry))) compare ⌝ }
-    ensures { λ r. ⌜ Left r (VerdictOn (now (desk .entry))) verdictNumbers (now (answer .entry)) (now (answer .exit)) ⌝ }
+// What a comparison returns, and leaves in the buffer of its answer.
+fn put_verdict(compared: CompareAnswer, answer: &mut [u32; 5]) -> u32
+    ensures { λ r. ⌜ r ≡ numberSaid (compareSays compared) ⌝ }
+    ensures { λ r. ⌜ now (answer .exit) ≡ verdictLeft (compareSays compared) (now (answer .entry)) ⌝ }
 {
-    let compared = calls::compare(words_at(desk, 0), words_at(desk, PLACE));
     match compared {
         CompareAnswer::Verdict(v) => {
             *answer = numbers_of(v);
@@ -141,6 +139,33 @@ pub extern "C" fn desk_compare(desk: &[u32; DESK], answer: &mut [u32; 5]) -> u32
         }
         CompareAnswer::Refused(n) => n,
     }
+}
+
+// Which of the two scales is better. Document 01 leaves open which price pairs the verdict carries, so the contract limits them.
+#[no_mangle]
+pub extern "C" fn desk_compare(desk: &[u32; DESK], answer: &mut [u32; 5]) -> u32
+    requires { ⌜ IsImage (now desk) ⌝ }
+    ensures { λ r. ⌜ r ≡ numberOf (deskIn (now (desk .entry))) compare ⌝ }
+    ensures { λ r. ⌜ Left r (VerdictOn (now (desk .entry))) verdictNumbers (now (answer .entry)) (now (answer .exit)) ⌝ }
+{
+    put_verdict(
+        calls::compare(words_at(desk, 0), words_at(desk, PLACE)),
+        answer,
+    )
+}
+
+// Which of the two scales is better on shares. Document 02 leaves open which price pairs the verdict carries, so the contract limits them:
+// "The pairs carried have prices up to 2,500,000,000".
+#[no_mangle]
+pub extern "C" fn desk_compare_shares(desk: &[u32; DESK], answer: &mut [u32; 5]) -> u32
+    requires { ⌜ IsImage (now desk) ⌝ }
+    ensures { λ r. ⌜ r ≡ numberOf (deskIn (now (desk .entry))) compareShares ⌝ }
+    ensures { λ r. ⌜ Left r (VerdictOnShares (now (desk .entry))) verdictNumbers (now (answer .entry)) (now (answer .exit)) ⌝ }
+{
+    put_verdict(
+        calls::compare_shares(words_at(desk, 0), words_at(desk, PLACE)),
+        answer,
+    )
 }
 
 // The numbers of a verdict.

@@ -3,7 +3,7 @@ use Prim.Native.Nat.{ℕ, _+_, _*_, _≤_}
 use mathlib.Core.Path.{_≡_}
 use native.Mathlib.Nat.{mul-pos}
 use native.Mathlib.Omega.{arith}
-use Rattle.table.specs.Table.{Table, defaultsIn, survivorsIn, obligorsIn}
+use Rattle.table.specs.Table.{Table, Mixed, defaultsIn, survivorsIn, obligorsIn}
 use Rattle.table.proofs.Arithmetic.{times-eq}
 use Rattle.table.proofs.Sums.{obligors-split}
 use Rattle.pooling.specs.Fraction.{Equal, ratio, sum, difference, product}
@@ -11,7 +11,6 @@ use Rattle.pooling.proofs.Scaled.{Over, over-sum, over-difference, equal, over-
 use Rattle.measures.specs.Pairs.{isConcordant, isDiscordant, concordant, discordant}
 use Rattle.measures.specs.Measures.{pairs, measuresOf}
 use Rattle.measures.specs.Published.{value, signedValue, rocArea, capArea, probability}
-use Rattle.measures.specs.Claims.{Mixed}
 use Rattle.measures.proofs.Pairs.{every-pair}
 use Rattle.measures.proofs.Counted.{pairs-are-counted}
 use Rattle.measures.proofs.Fractions.{over-signed, over-wider}

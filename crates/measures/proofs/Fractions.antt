@@ -8,7 +8,7 @@ use Rattle.table.proofs.Arithmetic.{times-eq}
 use Rattle.pooling.specs.Fraction.{Fraction, ratio}
 use Rattle.pooling.proofs.Scaled.{Over}
 use Rattle.measures.specs.Published.{over, absolute}
-use Rattle.measures.proofs.Signed.{by-sign, size-of}
+use Rattle.table.proofs.Signed.{by-sign, size-of}
 
 -- (a - b) / m
 pub over-signed : (a b m : ℕ) → Over m b (over (subℕ a b) m) a

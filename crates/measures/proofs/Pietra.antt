@@ -5,14 +5,13 @@ use native.Mathlib.Omega.{arith}
 use lib.Dec.{ltb→lt, nltb→le}
 use lib.IntN.{natAbs}
 use lib.ListN.{length}
-use Rattle.table.specs.Table.{Table, defaultsIn, survivorsIn}
+use Rattle.table.specs.Table.{Table, Mixed, defaultsIn, survivorsIn}
 use Rattle.pooling.specs.Fraction.{AtMost, Equal}
 use Rattle.pooling.proofs.Scaled.{Over, over-difference, over-same, at-most, of-at-most, equal, over-ratio}
 use Rattle.cutoff.specs.Cutoff.{caught, lost}
 use Rattle.cutoff.proofs.Best.{IsBest, is-best}
 use Rattle.measures.specs.Measures.{pairs, height, farther, pietraAt, measuresOf}
 use Rattle.measures.specs.Published.{signedValue, verticalDistance, absolute}
-use Rattle.measures.specs.Claims.{Mixed}
 use Rattle.measures.proofs.Signed.{larger-order}
 use Rattle.measures.proofs.Fractions.{over-signed, over-absolute}
 use Rattle.measures.proofs.Proper.{measures-proper}

@@ -4,13 +4,13 @@ use mathlib.Core.List.{List, [], _∷_}
 use native.Mathlib.Nat.{mul-pos}
 use native.Mathlib.Omega.{arith}
 use lib.IntN.{ℤ, pos, negsuc}
-use Rattle.table.specs.Table.{Table, Every, Counted, obligorsIn}
+use Rattle.table.specs.Table.{Table, Every, Counted, Mixed, obligorsIn}
 use Rattle.table.proofs.Sums.{obligors-split}
 use Rattle.pooling.specs.Fraction.{Fraction, Proper, nought, ratio, sum, difference, square, product}
 use Rattle.measures.specs.Brier.{brierOf}
 use Rattle.measures.specs.Measures.{pairs, measuresOf}
 use Rattle.measures.specs.Published.{value, over, absolute, areaUnder, Outcome, outcomes, squaredDifferences, meanSquaredDifference}
-use Rattle.measures.specs.Claims.{Mixed, ProperMeasures}
+use Rattle.measures.specs.Claims.{ProperMeasures}
 use Rattle.measures.proofs.Counted.{pairs-are-counted}
 use Rattle.measures.proofs.Outcomes.{length-outcomes}
 

@@ -4,7 +4,7 @@ use Prim.Native.Nat.{ℕ, _+_, _≤_, _<_}
 use mathlib.Core.Path.{_≡_}
 use mathlib.Core.Bool.{Bool, not}
 use lib.ListN.{length}
-use Rattle.table.specs.Table.{Table, Every, Counted, Rated, occupied, defaultsIn, survivorsIn, obligorsIn}
+use Rattle.table.specs.Table.{Table, Every, Counted, Rated, Mixed, occupied, defaultsIn, obligorsIn}
 use Rattle.pooling.specs.Fraction.{Proper, AtMost, Equal, ratio, sum, difference, product}
 use Rattle.measures.specs.Pairs.{number, obligorsOf, IsListOf, Pair, pairsAmong, isConcordant, isDiscordant, isTied}
 use Rattle.measures.specs.Pairs.{concordant, discordant, tied}
@@ -12,12 +12,6 @@ use Rattle.measures.specs.Measures.{pairs, measuresOf}
 use Rattle.measures.specs.Brier.{brierOf}
 use Rattle.measures.specs.Published.{value, signedValue, rocArea, capArea, probability, verticalDistance, absolute}
 use Rattle.measures.specs.Published.{outcomes, meanSquaredDifference}
-
--- A table with a default and a survivor.
-pub record Mixed (t : Table) : Type 0 where
-  pub counted : Every Counted t
-  pub defaulted : 1 ≤ defaultsIn t
-  pub survived : 1 ≤ survivorsIn t
 
 -- The pairs below are made of all obligors of a table, in grade order.
 abbrev pub ObligorsAreListed : Type 0

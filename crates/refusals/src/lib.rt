@@ -70,3 +70,8 @@ pub const LEFTOVER: u32 = 33;
 
 // A rate below that of the row before.
 pub const FALLING_RATE: u32 = 34;
+
+// Where tables are too large to be compared on shares (R-6).
+
+// A table of more than 100,000 obligors.
+pub const LARGE_TABLE: u32 = 35;

@@ -127,7 +127,8 @@ fn question(desk: Desk, call: Call) -> bool
     match operation {
         script::POOL => return pool(desk, place, call.second as usize),
         script::CHEAPEST => answers::cheapest(desk.cheapest(place, call.second, call.third)),
-        script::COMPARE => answers::compare(desk.compare()),
+        script::COMPARE => answers::compare(b"compare", desk.compare()),
+        script::COMPARE_SHARES => answers::compare(b"compare_shares", desk.compare_shares()),
         script::MEASURES => answers::measures(desk.measures(place)),
         script::BRIER => answers::brier(desk.brier(place)),
         script::SPREAD => spread(desk, place),

@@ -9,6 +9,7 @@
 //     7 brier     place
 //     8 spread    place
 //     9 write     length of the lent buffer in bytes (at most 8,192), each first set to 0xaa
+//    10 compare_shares
 // Pool and write print the whole buffer after the call, write in hexadecimal, and spread the 64 bits of each float as a number.
 // An unknown operation, an operand cut short, or a length above its limit ends the script with the line `end`.
 ghost use Rattle.desk.specs.Desk.{SoundDesk};

@@ -29,6 +29,8 @@ pub const SPREAD: u32 = 8;
 
 pub const WRITE: u32 = 9;
 
+pub const COMPARE_SHARES: u32 = 10;
+
 pub enum Command {
     Call(Call),
     // The input has ended before it.

@@ -1,5 +1,6 @@
 pub mod Arithmetic
 pub mod Test
+pub mod Signed
 pub mod Pastes
 pub mod Every
 pub mod Occupied

@@ -1,5 +1,8 @@
 //! What a tally says of the cases of a scene.
 
+// Each test takes from here what it needs.
+#![allow(dead_code)]
+
 use std::fmt::Display;
 
 /// The cells behind this start of a line.

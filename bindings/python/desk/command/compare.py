@@ -1,42 +1,52 @@
 """`desk compare`: which of two scales is better, at which prices, and what each costs at the analyst's own."""
 from __future__ import annotations
 
+from fractions import Fraction
 from typing import Any, Sequence
 
-from ..answers import Cutoff, Kind, Price, Verdict
+from ..answers import Cutoff, Kind, Price, Verdict, decimal
+from ..costs import Comparison, compared
 from ..desk import Desk
 from ..ranges import BOTH, FIRST, HIGHEST, LOWEST, SECOND, PriceRange, price_ranges
 from ..refusals import Refused
-from ..table import Table
+from ..table import MAX_OBLIGORS_ON_SHARES, Table
 from . import questions
 from .files import see_once
 from .inputs import Rater, Source, accepted, read_source, told_apart
 from .layout import columns, counted, shown
 from .outcome import Complaint, NotTaken, Outcome, Question, WrongUsage
-from .show import measured, measures_table, summary, summary_data
+from .show import fraction_data, measured, measures_table, summary, summary_data
 
-PRICES = ('Prices are u for each default that a cutoff misses and v for each survivor that it turns away; only their ratio u:v matters.\n'
-          'Cutoff g turns away the g worst grades. A scale costs what its cheapest cutoff costs; at 0:1 and at 1:0 that is nothing.')
+BY_COUNTS = 'Prices are u for each default that a cutoff misses and v for each survivor that it turns away; only their ratio u:v matters.'
+ON_SHARES = ("A cutoff costs u times the share of its book's defaults that it misses plus v times the share of its book's survivors that it turns "
+             'away.')
+CUTOFFS = 'Cutoff g turns away the g worst grades. A scale costs what its cheapest cutoff costs; at 0:1 and at 1:0 that is nothing.'
+OWN_BOOKS = " Costs go by shares of each book's own defaults and survivors."
+INSTEAD = f'. With --shares scales of different books are compared, of at most {MAX_OBLIGORS_ON_SHARES} obligors each'
 
 
-def compare(words: Sequence[str], prices: Sequence[Price], library: str) -> Outcome:
-    """The verdict on two raters: of `FILE`, `FILE A B`, `FILE FILE` or `FILE FILE A B`."""
+def compare(words: Sequence[str], prices: Sequence[Price], shares: bool, library: str) -> Outcome:
+    """The verdict on two raters, by counts or on shares: of `FILE`, `FILE A B`, `FILE FILE` or `FILE FILE A B`."""
     raters, asked = chosen(words)
     tables = accepted(raters)
     desk = loaded(tables, library)
     for table in tables:
         asked += questions.of_table(table)
     asked += questions.of_pair(*tables)
-    verdict, ranges = judged(desk, tables, asked)
-    priced = [(price, costs(desk, price)) for price in separating(verdict)]
-    own = [(price, asked_costs(desk, price, asked)) for price in prices]
+    comparison, ranges = judged(desk, tables, shares, asked)
+    verdict = comparison.verdict
+    priced = [(price, costs(comparison, price)) for price in separating(verdict)]
+    own = [(price, asked_costs(comparison, price, asked)) for price in prices]
     measures = [measured(desk, place, table) for place, table in enumerate(tables, 1)]
     asked += [question for each in measures for question in each.questions]
     names = [shown(rater.name) for rater in raters]
-    text = '\n'.join([summary(rater, table) for rater, table in zip(raters, tables)] + ['', verdict.sentence(*names), '', PRICES]
-                     + ranges_text(ranges, verdict, names) + costs_text(priced + own, raters) + [''] + measures_table(measures, names))
+    sentence = verdict.sentence(*names) + (OWN_BOOKS if shares else '')
+    text = '\n'.join([summary(rater, table) for rater, table in zip(raters, tables)] + ['', sentence, '']
+                     + ([ON_SHARES, one_by_one(tables, names)] if shares else [BY_COUNTS]) + [CUTOFFS]
+                     + ranges_text(ranges, verdict, names, shares) + costs_text(priced + own, raters, shares) + ['']
+                     + measures_table(measures, names))
     data = {'command': 'compare', 'first': summary_data(raters[0], tables[0]), 'second': summary_data(raters[1], tables[1]),
-            'verdict': verdict.kind.name.lower(), 'sentence': verdict.sentence(*names), 'ranges': [range_data(each) for each in ranges],
+            'shares': shares, 'verdict': verdict.kind.name.lower(), 'sentence': sentence, 'ranges': [range_data(each) for each in ranges],
             'separating': [cost_data(*each) for each in priced], 'prices': [cost_data(*each) for each in own],
             'measures': {'first': measures[0].data(), 'second': measures[1].data()}}
     return Outcome(text, data, asked)
@@ -79,13 +89,22 @@ def loaded(tables: Sequence[Table], library: str) -> Desk:
     return desk
 
 
-def judged(desk: Desk, tables: Sequence[Table], asked: list[Question]) -> tuple[Verdict, list[PriceRange]]:
+def judged(desk: Desk, tables: Sequence[Table], shares: bool, asked: list[Question]) -> tuple[Comparison, list[PriceRange]]:
     try:
-        return desk.compare(), price_ranges(desk)
+        return compared(desk, shares), price_ranges(desk, shares)
     except Refused as refused:
-        totals = ', '.join(f'{table.name} has {counted(table.defaults, "default")} and {counted(table.survivors, "survivor")}'
-                           for table in tables)
-        raise NotTaken([Complaint(refused.number, f'{tables[0].name} against {tables[1].name}', totals)], asked) from None
+        both = f'{tables[0].name} against {tables[1].name}'
+        raise NotTaken([Complaint(refused.number, both, why_not(refused.number, tables))], asked) from None
+
+
+def why_not(number: int, tables: Sequence[Table]) -> str:
+    """Why two tables are not compared: which ones are too large for shares, or their totals. Where these differ there is another way."""
+    if number == 35:
+        large = ', '.join(f'{table.name} has {table.obligors} obligors' for table in tables if table.obligors > MAX_OBLIGORS_ON_SHARES)
+        return f'{large}; on shares tables of at most {MAX_OBLIGORS_ON_SHARES} are compared'
+    totals = ', '.join(f'{table.name} has {counted(table.defaults, "default")} and {counted(table.survivors, "survivor")}'
+                       for table in tables)
+    return totals + INSTEAD if number == 25 else totals
 
 
 # Prices
@@ -95,16 +114,23 @@ def separating(verdict: Verdict) -> list[Price]:
     return [price.reduced() for price in (verdict.first_dearer, verdict.second_dearer) if price]
 
 
-def costs(desk: Desk, price: Price) -> tuple[Cutoff, Cutoff]:
-    return desk.cheapest(1, *price), desk.cheapest(2, *price)
+def costs(comparison: Comparison, price: Price) -> tuple[Cutoff, Cutoff]:
+    return comparison.first.cheapest(*price), comparison.second.cheapest(*price)
 
 
-def asked_costs(desk: Desk, price: Price, asked: list[Question]) -> tuple[Cutoff, Cutoff]:
-    """The same at prices of the command line, which may be too high."""
+def asked_costs(comparison: Comparison, price: Price, asked: list[Question]) -> tuple[Cutoff, Cutoff]:
+    """The same at prices of the command line, which may be too high by counts."""
     try:
-        return costs(desk, price)
+        return costs(comparison, price)
     except Refused as refused:
         raise NotTaken([Complaint.of(refused, f'the prices {price}')], asked) from None
+
+
+def one_by_one(tables: Sequence[Table], names: Sequence[str]) -> str:
+    """What an analyst's prices for single obligors are on shares: D defaults cost D times as much as one."""
+    first, second = (f'{table.defaults}p:{table.survivors}q' for table in tables)
+    return (f'Only the ratio u:v matters. Prices of p for each default and q for each survivor are u:v = {first} in the book of {names[0]}, '
+            f'{second} in that of {names[1]}.')
 
 
 def cheaper_of(found: tuple[Cutoff, Cutoff]) -> str:
@@ -116,31 +142,36 @@ def in_words(cheaper: str, names: Sequence[str]) -> str:
     return {FIRST: names[0], SECOND: names[1], BOTH: 'both cost the same'}[cheaper]
 
 
-def interval(found: PriceRange) -> str:
+def ratio(price: Price, shares: bool) -> str:
+    """A price ratio; on shares, where its numbers may be long, behind its decimal."""
+    return f'{decimal(Fraction(*price), 6)} ({price})' if shares and price.v else str(price)
+
+
+def interval(found: PriceRange, shares: bool) -> str:
     """The ratios of a range in words. At the two ends every scale costs nothing, so they are not named."""
-    start, end = found.start, found.end
-    if start == end:
+    start, end = ratio(found.start, shares), ratio(found.end, shares)
+    if found.start == found.end:
         return f'at {start}'
-    if start == LOWEST:
-        return 'all' if end == HIGHEST else f'{"up to" if found.includes_end else "below"} {end}'
-    if end == HIGHEST:
+    if found.start == LOWEST:
+        return 'all' if found.end == HIGHEST else f'{"up to" if found.includes_end else "below"} {end}'
+    if found.end == HIGHEST:
         return f'{"from" if found.includes_start else "above"} {start}{" on" if found.includes_start else ""}'
     return f'from {start} to {end}' if found.includes_start else f'between {start} and {end}'
 
 
-def ranges_text(ranges: Sequence[PriceRange], verdict: Verdict, names: Sequence[str]) -> list[str]:
+def ranges_text(ranges: Sequence[PriceRange], verdict: Verdict, names: Sequence[str], shares: bool) -> list[str]:
     if verdict.kind is Kind.EQUAL:
         return []
-    rows = [(interval(each), in_words(each.cheaper, names)) for each in ranges
+    rows = [(interval(each, shares), in_words(each.cheaper, names)) for each in ranges
             if each.start != each.end or each.start not in (LOWEST, HIGHEST)]
     return [''] + columns([('price ratio u:v', 'cheaper'), *rows])
 
 
-def costs_text(priced: Sequence[tuple], raters: Sequence[Rater]) -> list[str]:
+def costs_text(priced: Sequence[tuple], raters: Sequence[Rater], shares: bool) -> list[str]:
     if not priced:
         return []
     names = [shown(rater.name) for rater in raters]
-    rows = [(str(price), *map(cutoff_text, raters, found), in_words(cheaper_of(found), names)) for price, found in priced]
+    rows = [(ratio(price, shares), *map(cutoff_text, raters, found), in_words(cheaper_of(found), names)) for price, found in priced]
     return [''] + columns([('prices u:v', *names, 'cheaper'), *rows])
 
 
@@ -161,6 +192,10 @@ def range_data(found: PriceRange) -> dict[str, Any]:
             'includes_to': found.includes_end, 'cheaper': found.cheaper}
 
 
+def cutoff_data(found: Cutoff) -> dict[str, Any]:
+    return {'cutoff': found.cutoff, 'cost': found.cost if isinstance(found.cost, int) else fraction_data(found.cost)}
+
+
 def cost_data(price: Price, found: tuple[Cutoff, Cutoff]) -> dict[str, Any]:
-    first, second = ({'cutoff': each.cutoff, 'cost': each.cost} for each in found)
+    first, second = map(cutoff_data, found)
     return {**price_data(price), 'first': first, 'second': second, 'cheaper': cheaper_of(found)}

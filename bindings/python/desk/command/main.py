@@ -32,6 +32,7 @@ examples:
   desk compare inhouse.csv agency.csv             one table in each file
   desk compare portfolio.book 1 3                 two raters of one book
   desk compare inhouse.csv agency.csv --prices 50:1 --prices 20:1
+  desk compare harbour.csv valley.csv --shares    scales of books of different sizes
   desk show portfolio.book                        all raters at a glance
   desk show portfolio.book 3                      one rater in full
   desk pack inhouse.csv agency.csv -o both.book   CSV to a book
@@ -48,7 +49,7 @@ not work.
 
 def prices(word: str) -> Price:
     """Prices as the command line has them, u:v."""
-    found = re.fullmatch('([0-9]{1,18}):([0-9]{1,18})', word)
+    found = re.fullmatch('([0-9]{1,19}):([0-9]{1,19})', word)  # as many digits as a ratio has that `compare --shares` finds
     if not found:
         raise argparse.ArgumentTypeError(f'{word!r} is not U:V, two whole numbers such as 50:1: what a missed default costs, '
                                          'and what a survivor turned away costs')
@@ -93,12 +94,14 @@ def command_line() -> Parser:
         made.add_argument('--json', action='store_true', help='answer as JSON (docs/COMMAND.md has its form)')
         return made
     compare = command('compare', 'which of two scales is better', 'desk compare inhouse.csv agency.csv --prices 50:1')
-    compare.usage = 'desk compare [-h] [--json] [--prices U:V] FILE [FILE] [A B]'
+    compare.usage = 'desk compare [-h] [--json] [--shares] [--prices U:V] FILE [FILE] [A B]'
     compare.add_argument('words', nargs='+', metavar='FILE [FILE] [A B]', help='one or two files, then the raters by number or name where '
                                                                                'a file has several: A of the first file, B of the second')
+    compare.add_argument('--shares', action='store_true', help='compare scales of books of different sizes: costs go by shares of each '
+                                                               "book's own defaults missed and survivors turned away")
     compare.add_argument('--prices', action='append', default=[], type=prices, metavar='U:V',
-                         help='also the cheapest cutoffs of both at these prices of a missed default and of a survivor turned away; '
-                              'may be repeated')
+                         help='also the cheapest cutoffs of both at these prices of a missed default and of a survivor turned away, with '
+                              '--shares of all defaults missed and of all survivors turned away; may be repeated')
     show = command('show', 'the grades, rates and measures of a rater, or all raters at a glance', 'desk show portfolio.book 3')
     show.add_argument('file', metavar='FILE')
     show.add_argument('rater', nargs='?', metavar='RATER', help='its number or name; left out, all raters of a file that has several')
@@ -123,7 +126,7 @@ def answer(asked: argparse.Namespace) -> Outcome:
     """Runs one command. Each imports what it needs, so that none waits for another's."""
     if asked.command == 'compare':
         from .compare import compare
-        return compare(asked.words, asked.prices, shared_library())
+        return compare(asked.words, asked.prices, asked.shares, shared_library())
     if asked.command == 'show':
         from .show import show
         return show(asked.file, asked.rater, asked.repeated, shared_library())

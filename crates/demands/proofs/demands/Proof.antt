@@ -4,6 +4,9 @@ use Rattle.book.proofs.RoundTrip.{round-trip}
 use Rattle.book.proofs.Again.{written-again}
 use Rattle.cutoff.proofs.Cost.{cheapest-is, cheapest-unique}
 use Rattle.cutoff.proofs.Pooled.{pooled-costs-same}
+use Rattle.shares.proofs.Shares.{cheapest-share, cheapest-shares-equal, share-costs-proper}
+use Rattle.shares.proofs.Weights.{multiples-equal, multiples-as-good}
+use Rattle.shares.proofs.Settled.{multiples-one-verdict}
 use Rattle.measures.proofs.Claimed as measures
 use Rattle.desk.proofs.Asked.{asked-sound}
 use Rattle.demands.proofs.History.{places-hold, tables-sound, rates-never-fall, desk-sound}
@@ -11,7 +14,7 @@ use Rattle.demands.proofs.Faults.{answered, never-five}
 use Rattle.demands.proofs.Loads.{load-tells, load-means, load-takes, load-means-empty, load-tells-fall, load-means-fall}
 use Rattle.demands.proofs.Kept.{refused-kept, written-only, others-kept}
 use Rattle.demands.proofs.Accepted.{regression-written, repeats-written, measured-mixed, loads-back, writes-back}
-use Rattle.demands.proofs.Verdicts.{compare-right}
+use Rattle.demands.proofs.Verdicts.{compare-right, shares-right, agree}
 use Rattle.demands.proofs.demands.Statement.{statement}
 use Rattle.demands.proofs.demands.Tie as tie
 
@@ -48,6 +51,10 @@ returns c = record {
   pool-writes-the-regression = regression-written;
   pool-repeats-for-empty-grades = repeats-written;
   compare-is-right = compare-right;
+  compare-shares-is-right = shares-right;
+  comparisons-agree = agree;
+  every-table-has-one-cheapest-share = (cheapest-share, cheapest-shares-equal, share-costs-proper);
+  sizes-play-no-part = (multiples-equal, multiples-as-good, multiples-one-verdict);
   every-table-has-one-cheapest-cost = (cheapest-is, cheapest-unique);
   pooling-keeps-the-cheapest-cost = pooled-costs-same;
 }

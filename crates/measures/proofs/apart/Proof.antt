@@ -1,7 +1,7 @@
 -- `apart` meets its contract.
 use native.Mathlib.Omega.{arith}
 use borrow.Author.Needs.{needs}
-use Rattle.measures.proofs.Signed.{size-of}
+use Rattle.table.proofs.Signed.{size-of}
 use Rattle.measures.proofs.apart.Statement.{statement}
 use Rattle.measures.proofs.apart.Tie as tie
 

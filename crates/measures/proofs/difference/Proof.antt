@@ -6,7 +6,8 @@ use lib.IntN.{_-ℤ_, subℕ}
 use mir.Syntax.{w64}
 use mir.Val.{toZ}
 use mir.ValLaws.{toZ-pos, toZ-ofZ}
-use Rattle.measures.proofs.Signed.{pos-pos, difference-fits}
+use Rattle.table.proofs.Signed.{pos-pos}
+use Rattle.measures.proofs.Signed.{difference-fits}
 use Rattle.measures.proofs.difference.Statement.{statement}
 use Rattle.measures.proofs.difference.Tie as tie
 

@@ -1,0 +1,5 @@
+pub mod Shares
+pub mod Weights
+pub mod Totals
+pub mod Settled
+pub mod Judged
