@@ -19,6 +19,8 @@ use Rattle.calls.specs.declared.SpreadAnswer.{SpreadAnswer}
 use Rattle.calls.specs.declared.SpreadAnswer.the-variants as spread
 use Rattle.calls.specs.declared.TotalsAnswer.{TotalsAnswer}
 use Rattle.calls.specs.declared.TotalsAnswer.the-variants as totals
+use Rattle.calls.specs.declared.PairAnswer.{PairAnswer}
+use Rattle.calls.specs.declared.PairAnswer.the-variants as pair
 
 pub data Answer (A : Type 0) : Type 0 where
   accepted : A → Answer A
@@ -65,3 +67,8 @@ spreadSays (spread.Refused n) = refused n
 abbrev pub totalsSays : TotalsAnswer → Answer Totals
 totalsSays (totals.Totals t) = accepted t
 totalsSays (totals.Refused n) = refused n
+
+-- and that of both places
+abbrev pub pairSays : PairAnswer → Answer (Totals × Totals)
+pairSays (pair.Totals a b) = accepted (a, b)
+pairSays (pair.Refused n) = refused n

@@ -5,20 +5,32 @@ use mathlib.Core.Path.{_≡_}
 use mathlib.Core.Bool.{false}
 use mathlib.Core.List.{List, [], _∷_}
 use lib.ListN.{length}
+use Rattle.table.specs.declared.Place.{Place}
 use Rattle.table.specs.declared.Totals.{Totals}
-use Rattle.table.specs.Place.{fresh}
+use Rattle.table.specs.Table.{Table, defaultsIn, survivorsIn}
+use Rattle.table.specs.Counts.{totalsOf}
+use Rattle.table.specs.Place.{fresh, tableOf}
 use Rattle.table.specs.Words.{placeSize, wordsOf, placeIn}
-use Rattle.book.specs.Checks.{Check, at-most}
+use Rattle.book.specs.Checks.{Check, at-most, fault, firstFault}
 use Rattle.calls.specs.Answers.{Answer, accepted, refused}
+use Rattle.calls.specs.Calls.{emptyFault}
 
--- 23 for either, 24 for either: the checks of the totals that both comparisons begin with
-abbrev pub mixedChecks : Totals → Totals → List Check
-mixedChecks a b =
-    at-most 1 (a .defaults) 23
-    ∷ at-most 1 (b .defaults) 23
-    ∷ at-most 1 (a .survivors .0) 24
-    ∷ at-most 1 (b .survivors .0) 24
+-- 23 for either, 24 for either: the checks of the tables that both comparisons begin with
+abbrev pub mixedChecks : Table → Table → List Check
+mixedChecks t₁ t₂ =
+    at-most 1 (defaultsIn t₁) 23
+    ∷ at-most 1 (defaultsIn t₂) 23
+    ∷ at-most 1 (survivorsIn t₁) 24
+    ∷ at-most 1 (survivorsIn t₂) 24
     ∷ []
+
+-- 22, place 1 before place 2, and these
+abbrev pub mixedFault : Place → Place → ℕ
+mixedFault p q = firstFault (emptyFault p) (firstFault (emptyFault q) (fault (mixedChecks (tableOf p) (tableOf q))))
+
+-- the totals of both tables
+abbrev pub pairTotals : Place → Place → Totals × Totals
+pairTotals p q = (totalsOf (tableOf p), totalsOf (tableOf q))
 
 -- where a is a refusal, r is the same one
 abbrev pub SameRefusal : {A B : Type 0} → Answer A → Answer B → Type 0

@@ -68,6 +68,12 @@ pub enum TotalsAnswer {
     Refused(u32),
 }
 
+// The answer of both places to a comparison: the totals of two tables, each with a default and a survivor.
+pub enum PairAnswer {
+    Totals(Totals, Totals),
+    Refused(u32),
+}
+
 // Fills an empty place with the table of a rater of a book; 0, or the refusal number.
 pub fn load(place: &mut [u32], book: &[u8], rater: u32) -> u32
     requires { ⌜ Fillable (now place) ⌝ }

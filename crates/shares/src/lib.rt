@@ -27,8 +27,8 @@ fn weights_of(t: Totals) -> Weights
 
 // The verdict on shares on the tables in two lent places, whose totals are these.
 // The prices of a block with d defaults and s survivors of a table with D and S are u = s D and v = d S, at most D S. With at most 100,000
-// obligors that is at most 50,000 times 50,000. The cheapest cutoff of the table itself then costs the whole number s (D - y) + d x, at most D S too; times the
-// other table's D S, and twice that, it fits in 64 bits.
+// obligors that is at most 50,000 times 50,000. The cheapest cutoff of the table itself then costs the whole number s (D - y) + d x, at most D S
+// too. Both sides of a comparison, times the other table's D S, and their difference with its sign, fit in 64 bits.
 pub fn judge(first: &[u32], totals1: Totals, second: &[u32], totals2: Totals) -> Verdict
     requires tables { ⌜ HoldsTable (now first) × HoldsTable (now second) ⌝ }
     requires shareable { ⌜ Shareable (tableIn (now first)) × Shareable (tableIn (now second)) ⌝ }
