@@ -18,10 +18,10 @@
  * - Band b of a block is the smallest b from 0 to 13 with rate at most 100 * 2^b ppm, compared without rounding; 14 if none.
  * - Pairs are one defaulted with one surviving obligor: of C the defaulted one is in the worse grade, of X in the better, of T in
  *   the same. Gini is (C - X) / DS, the ROC area (2C + T) / 2DS, the CAP area (DN + C - X) / 2DN. Pietra is the yS - xD of
- *   largest absolute size over all cutoffs, signed, over DS, where a cutoff turns away y defaults and x survivors: how far the
- *   ROC curve gets from the diagonal, negative where that is below it, as on a scale that is upside down; of equal sizes the
- *   smallest cutoff decides the sign. Brier is the sum over the grades of d(1000000 - p)^2 + sp^2, p the announced rate, over
- *   N * 10^12. Fractions have just these numerators and denominators.
+ *   largest absolute size over all cutoffs, signed, over DS, y and x as above: how far the ROC curve gets from the diagonal,
+ *   negative where that is below it, as on a scale that is upside down; of equal sizes the smallest cutoff decides the sign.
+ *   Brier is the sum over the grades of d(1000000 - p)^2 + sp^2, p the announced rate, over N * 10^12. Fractions have just these
+ *   numerators and denominators.
  * - A book is the tables of 1 to 16 raters in bytes, every number unsigned with its low byte first: the number R of raters and
  *   the book's length (2 bytes each), R offsets (2 bytes each, where a rater's table starts), then the tables without gaps.
  *   A table is its number of grades (1 byte), its kind (1 byte: what the first column counts, 0 obligors, 1 survivors), two

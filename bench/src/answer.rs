@@ -1,8 +1,8 @@
 //! What a call answered, in one form for all versions.
 use crate::cases::{Call, Case};
 use crate::{plain, proved};
-use reference::cutoff::{cheapest_cost, Price, Verdict};
-use reference::shares::{cheapest_cost_on_shares, MAX_PRICE_ON_SHARES};
+use reference::compare::{dearer, dearer_on_shares, Dearer};
+use reference::cutoff::{Price, Verdict};
 use reference::spread::lawful;
 use reference::table::Table;
 
@@ -36,12 +36,9 @@ impl Answer {
 /// Whether the price pairs of a verdict are in range and show what it says.
 fn shown(verdict: &Verdict, case: &Case) -> bool {
     let [first, second] = &case.tables;
-    let up_to = |most: u64, price: &Price| price.missed_default <= most && price.lost_survivor <= most;
-    let dearer = |one: &Table, other: &Table, price: &Price| match case.call {
-        Call::CompareShares => {
-            up_to(MAX_PRICE_ON_SHARES, price) && cheapest_cost_on_shares(one, price) > cheapest_cost_on_shares(other, price)
-        }
-        _ => up_to(1_000_000, price) && cheapest_cost(one, price) > cheapest_cost(other, price),
+    let dearer: Dearer = match case.call {
+        Call::CompareShares => dearer_on_shares,
+        _ => dearer,
     };
     match verdict {
         Verdict::Equal => true,

@@ -63,7 +63,7 @@ static Wide survivors_of(const Scale *scale, size_t grades)
     return sum;
 }
 
-/* D and S as one number, which is what costs are a part of. */
+/* DS, over which costs are written. */
 static Wide whole(const Scale *scale)
 {
     return defaults_of(scale, scale->grades) * survivors_of(scale, scale->grades);

@@ -129,7 +129,7 @@ fn spread_is_lawful(desk: &Desk, place: u32, line: &str) -> bool {
 }
 
 /// Whether one table costs more than the other at these prices, which are lawful.
-type Dearer = fn(&Table, &Table, &Price) -> bool;
+pub type Dearer = fn(&Table, &Table, &Price) -> bool;
 
 /// The verdict must be the same; its price pairs may be others, if they show what they have to.
 fn verdict_is_lawful(
@@ -169,12 +169,12 @@ fn up_to(highest: u64, price: &Price) -> bool {
 }
 
 /// In the first comparison.
-fn dearer(one: &Table, other: &Table, price: &Price) -> bool {
+pub fn dearer(one: &Table, other: &Table, price: &Price) -> bool {
     up_to(MILLION, price) && cheapest_cost(one, price) > cheapest_cost(other, price)
 }
 
 /// In the second comparison, request R-6 of document 02.
-fn dearer_on_shares(one: &Table, other: &Table, price: &Price) -> bool {
+pub fn dearer_on_shares(one: &Table, other: &Table, price: &Price) -> bool {
     up_to(MAX_PRICE_ON_SHARES, price)
         && cheapest_cost_on_shares(one, price) > cheapest_cost_on_shares(other, price)
 }

@@ -153,7 +153,8 @@ fn is_sound(table: &Table) -> bool {
     table.defaults() > 0 && table.survivors() > 0 && obligors <= MAX_OBLIGORS_ON_SHARES
 }
 
-fn sound(random: &mut Random) -> Table {
+/// A table that the second comparison takes.
+pub fn sound(random: &mut Random) -> Table {
     of_at_most(random, MAX_OBLIGORS_ON_SHARES)
 }
 

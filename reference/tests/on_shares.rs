@@ -2,11 +2,11 @@
 //! gives the same four verdicts, under the same meaning over all whole-number prices." Worked out by
 //! hand, then by plainer means on random tables.
 
+use desks::desk_with;
 use reference::answer::{verdict_name, verdict_prices};
-use reference::book;
 use reference::cutoff::{cutoffs, verdict, Price, Verdict};
 use reference::desk::Desk;
-use reference::lenders::times;
+use reference::lenders::{sound, times};
 use reference::partners::{mixed_outcomes, same_obligors};
 use reference::pooling::pooled_scale;
 use reference::population::sort_by_rate;
@@ -15,6 +15,8 @@ use reference::script::{decode, Call};
 use reference::shares::{cheapest_cost_on_shares, verdict_on_shares, Fraction};
 use reference::table::Table;
 use std::cmp::Ordering;
+
+mod desks;
 
 /// D 5, S 15. Cutoff 1 catches 4 of 5 defaults and turns away 6 of 15 survivors.
 const A: [(u64, u64); 2] = [(10, 1), (10, 4)];
@@ -34,19 +36,9 @@ fn price(missed_default: u64, lost_survivor: u64) -> Price {
     }
 }
 
-fn desk_of(tables: [Option<&Table>; 2]) -> Desk {
-    let mut desk = Desk::fresh();
-    for (place, table) in (1..).zip(tables) {
-        if let Some(table) = table {
-            desk.load(place, 1, &book::write(&[table])).expect("valid");
-        }
-    }
-    desk
-}
-
 /// The answer of the call to a desk that holds these tables, which it leaves as it was.
 fn answer(tables: [Option<&Table>; 2]) -> Result<Verdict, u32> {
-    let desk = desk_of(tables);
+    let desk = desk_with(tables);
     let mut asked = desk.clone();
     let line = asked.call(&Call::CompareShares).line();
     assert_eq!(asked, desk);
@@ -183,15 +175,6 @@ fn assert_pairs_show(first: &Table, second: &Table) {
     }
 }
 
-fn sound(random: &mut Random) -> Table {
-    loop {
-        let table = mixed_outcomes(random);
-        if table.obligors() <= 100_000 {
-            return table;
-        }
-    }
-}
-
 #[test]
 fn pairs_carried_show_what_they_have_to() {
     for seed in 0..1_500 {
@@ -280,7 +263,7 @@ fn equal_totals_have_the_verdict_of_the_first_comparison() {
     let mut seen = std::collections::BTreeMap::new();
     for seed in 0..4_000 {
         let (first, second) = same_obligors(&mut Random::of_seed(seed));
-        let desk = desk_of([Some(&first), Some(&second)]);
+        let desk = desk_with([Some(&first), Some(&second)]);
         let by_counts = verdict_name(&desk.compare().expect("accepted"));
         match first.obligors() {
             0..=100_000 => {
@@ -458,16 +441,16 @@ fn other_totals_are_taken_and_the_first_comparison_is_as_it_was() {
         (vec![(29, 2), (26, 8)], Some(25)),
     ] {
         let (a, other) = (rows(&A), rows(&other));
-        let desk = desk_of([Some(&a), Some(&other)]);
+        let desk = desk_with([Some(&a), Some(&other)]);
         assert_eq!(desk.compare().err(), number, "{other:?}");
         assert_eq!(refusal(&a, &other), None, "{other:?}");
     }
     let large = rows(&[(600_000, 1), (400_000, 2)]);
-    let desk = desk_of([Some(&large), Some(&large)]);
+    let desk = desk_with([Some(&large), Some(&large)]);
     assert_eq!(desk.compare(), Ok(Verdict::Equal));
     assert_eq!(desk.compare_shares(), Err(35));
     let other = rows(&[(600_000, 1), (300_000, 2)]);
-    let desk = desk_of([Some(&large), Some(&other)]);
+    let desk = desk_with([Some(&large), Some(&other)]);
     assert_eq!(desk.compare(), Err(25));
     assert_eq!(desk.compare_shares(), Err(35));
 }
@@ -503,7 +486,7 @@ fn operation_10_has_no_operands() {
 fn lines_are_those_of_compare() {
     let line = |tables: [&[(u64, u64)]; 2]| {
         let tables = tables.map(rows);
-        let mut desk = desk_of([Some(&tables[0]), Some(&tables[1])]);
+        let mut desk = desk_with([Some(&tables[0]), Some(&tables[1])]);
         desk.call(&Call::CompareShares).line()
     };
     let is = |line: String, start: &str, prices: usize| {

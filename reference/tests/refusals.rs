@@ -1,5 +1,6 @@
 //! Every refusal number of every call, and the cases in which the order of the checks decides.
 
+use desks::desk_with;
 use reference::book;
 use reference::damage::{ways_from, LOAD_ORDER, WAYS};
 use reference::desk::Desk;
@@ -8,18 +9,10 @@ use reference::population::any_table;
 use reference::random::Random;
 use reference::table::Table;
 
+mod desks;
+
 fn mixed() -> Table {
     Table::of_rows(&[(10, 2), (10, 1), (20, 4)])
-}
-
-fn desk_with(first: Option<&Table>, second: Option<&Table>) -> Desk {
-    let mut desk = Desk::fresh();
-    for (place, table) in [(1, first), (2, second)] {
-        if let Some(table) = table {
-            desk.load(place, 1, &book::write(&[table])).expect("valid");
-        }
-    }
-    desk
 }
 
 fn good() -> Table {
@@ -95,7 +88,7 @@ fn ways_are_taken_from_a_point_of_the_load_order_on() {
 
 #[test]
 fn load_tries_place_then_state_then_book() {
-    let mut desk = desk_with(Some(&mixed()), None);
+    let mut desk = desk_with([Some(&mixed()), None]);
     assert_eq!(desk.load(0, 0, &[]), Err(1));
     assert_eq!(desk.load(3, 0, &[]), Err(1));
     assert_eq!(desk.load(1, 0, &[]), Err(21));
@@ -105,7 +98,7 @@ fn load_tries_place_then_state_then_book() {
     assert_eq!(desk.load(2, 0, &[1, 0, 6, 0, 0, 0]), Err(4));
     assert_eq!(desk.load(2, 2, &[1, 0, 6, 0, 0, 0]), Err(4));
     assert_eq!(desk.load(2, 1, &[1, 0, 6, 0, 6, 0]), Err(32));
-    assert_eq!(desk, desk_with(Some(&mixed()), None));
+    assert_eq!(desk, desk_with([Some(&mixed()), None]));
 }
 
 /// A book of two tables, mixed and mixed, kind 0, with some bytes changed.
@@ -187,7 +180,7 @@ fn rows_are_tried_one_after_the_other() {
 
 #[test]
 fn calls_on_one_place() {
-    let desk = desk_with(Some(&mixed()), None);
+    let desk = desk_with([Some(&mixed()), None]);
     for place in [0, 3, u32::MAX] {
         assert_eq!(desk.clone().clear(place), Err(1));
         assert_eq!(desk.pool(place, &mut []), Err(1));
@@ -203,8 +196,8 @@ fn calls_on_one_place() {
     assert_eq!(desk.spread(2), Err(22));
     assert_eq!(desk.measures(2), Err(22));
     assert_eq!(desk.cheapest(1, 0, u32::MAX), Err(12));
-    assert_eq!(desk_with(Some(&good()), None).measures(1), Err(23));
-    assert_eq!(desk_with(Some(&bad()), None).measures(1), Err(24));
+    assert_eq!(desk_with([Some(&good()), None]).measures(1), Err(23));
+    assert_eq!(desk_with([Some(&bad()), None]).measures(1), Err(24));
     let mut cleared = desk.clone();
     assert_eq!(cleared.clear(1), Ok(()));
     assert_eq!(cleared, Desk::fresh());
@@ -212,7 +205,7 @@ fn calls_on_one_place() {
 
 #[test]
 fn buffers() {
-    let desk = desk_with(Some(&mixed()), None);
+    let desk = desk_with([Some(&mixed()), None]);
     let mut numbers = [7; 10];
     assert_eq!(desk.pool(1, &mut numbers[..8]), Err(13));
     assert_eq!(numbers, [7; 10]);
@@ -230,7 +223,7 @@ fn buffers() {
 #[test]
 fn compare_refuses_in_order() {
     fn compare(first: Option<&Table>, second: Option<&Table>) -> Option<u32> {
-        desk_with(first, second).compare().err()
+        desk_with([first, second]).compare().err()
     }
     let other = Table::of_rows(&[(10, 2), (10, 1), (21, 4)]);
     let third = Table::of_rows(&[(10, 2), (10, 1), (20, 3), (1, 0)]);
@@ -248,12 +241,12 @@ fn compare_refuses_in_order() {
 
 #[test]
 fn a_written_book_gives_its_tables_back() {
-    let desk = desk_with(Some(&good()), Some(&mixed()));
+    let desk = desk_with([Some(&good()), Some(&mixed())]);
     let mut bytes = [0; 100];
     let length = desk.write(&mut bytes).expect("long enough");
     assert_eq!(book::read(&bytes[..length], 1), Ok(good()));
     assert_eq!(book::read(&bytes[..length], 2), Ok(mixed()));
-    let second_only = desk_with(None, Some(&mixed()));
+    let second_only = desk_with([None, Some(&mixed())]);
     let length = second_only.write(&mut bytes).expect("long enough");
     assert_eq!(book::read(&bytes[..length], 1), Ok(mixed()));
 }

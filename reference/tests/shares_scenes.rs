@@ -1,8 +1,8 @@
 //! The scene about R-6 of document 02 holds other programs to it: its tables are what they say, and
 //! a run has all of them.
 
+use desks::desk_with;
 use reference::answer::{verdict_name, Answer};
-use reference::book;
 use reference::compare::plan;
 use reference::desk::Desk;
 use reference::empty_scene::without_empty;
@@ -20,19 +20,10 @@ use tallied::cells;
 use Holds::*;
 use Lenders::*;
 
+mod desks;
 mod tallied;
 
 const SCENE: &str = "raters of different books";
-
-fn desk_of(tables: [Option<&Table>; 2]) -> Desk {
-    let mut desk = Desk::fresh();
-    for (place, table) in (1..).zip(tables) {
-        if let Some(table) = table {
-            desk.load(place, 1, &book::write(&[table])).expect("valid");
-        }
-    }
-    desk
-}
 
 fn totals(table: &Table) -> (u64, u64) {
     (table.defaults(), table.survivors())
@@ -57,7 +48,7 @@ fn every_case_has_its_verdicts() {
         let (mut verdicts, mut grade_counts) = (BTreeMap::new(), BTreeSet::new());
         for seed in 0..400 {
             let tables = case.tables(&mut Random::of_seed(seed));
-            let desk = desk_of(tables.each_ref().map(Some));
+            let desk = desk_with(tables.each_ref().map(Some));
             let verdict = desk.compare_shares();
             let verdict = verdict_name(&verdict.expect("the tables are sound"));
             *verdicts.entry(verdict).or_insert(0) += 1;
@@ -172,7 +163,7 @@ fn every_two_places_lead_to_their_number() {
         for seed in 0..60 {
             let random = &mut Random::of_seed(seed);
             let tables = places.map(|holds| holds.table(random));
-            let desk = desk_of(tables.each_ref().map(Option::as_ref));
+            let desk = desk_with(tables.each_ref().map(Option::as_ref));
             let found = [1, 2].map(|place| Holds::of(desk.table(place).ok()));
             assert_eq!(found, places, "{seed}");
             let number = desk.compare_shares().err();

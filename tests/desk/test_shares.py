@@ -34,7 +34,7 @@ NO_DEFAULTS: Scale = [(3, 0)]
 NO_SURVIVORS: Scale = [(3, 3)]
 LARGEST: Scale = [(60_000, 20), (39_999, 30), (1, 1)]
 TOO_LARGE: Scale = [(60_000, 20), (40_000, 30), (1, 1)]
-KEPT = {Kind.FIRST: Kind.SECOND, Kind.SECOND: Kind.FIRST, Kind.EQUAL: Kind.EQUAL, Kind.CROSSING: Kind.CROSSING}  # places exchanged
+EXCHANGED = {Kind.FIRST: Kind.SECOND, Kind.SECOND: Kind.FIRST, Kind.EQUAL: Kind.EQUAL, Kind.CROSSING: Kind.CROSSING}
 
 
 def grades_of(scale: Scale) -> list[tuple]:
@@ -69,7 +69,7 @@ class WorkedTables(unittest.TestCase):
     def see(self, first: Scale, second: Scale, kind: Kind) -> Verdict:
         """The verdict, which prices by definition show, and that of the places exchanged."""
         found, exchanged = loaded(Desk(), first, second).compare_shares(), loaded(Desk(), second, first).compare_shares()
-        self.assertEqual((found.kind, exchanged.kind), (kind, KEPT[kind]))
+        self.assertEqual((found.kind, exchanged.kind), (kind, EXCHANGED[kind]))
         self.assertEqual((found.first_dearer is None, found.second_dearer is None),
                          (kind in (Kind.EQUAL, Kind.FIRST), kind in (Kind.EQUAL, Kind.SECOND)))
         if found.first_dearer:
@@ -227,8 +227,8 @@ class Limits(unittest.TestCase):
         self.assertEqual((sum(n for n, _ in LARGEST), sum(n for n, _ in TOO_LARGE)), (MAX_OBLIGORS, MAX_OBLIGORS + 1))
 
     def test_prices_near_2_500_000_000(self) -> None:
-        """One grade of D 50,000 and S 50,000 breaks even at u SD and v DS. There, and by definition at no other ratio of its blocks, it costs
-        more than a scale that separates all; its pair needs more than 31 bits."""
+        """One grade of D 50,000 and S 50,000: its only block breaks even at u SD and v DS. Which pair is carried is the library's choice, and
+        it takes break-even prices as they are, not reduced: these need more than 31 bits."""
         one, all_apart = [(100_000, 50_000)], [(50_000, 0), (50_000, 50_000)]
         for scales_, dearer in (((one, all_apart), 'first_dearer'), ((all_apart, one), 'second_dearer')):
             found = getattr(loaded(WatchedDesk(), *scales_).compare_shares(), dearer)
@@ -358,6 +358,11 @@ class Command(Comparing):
                      "Harbour and Valley cross: neither is better, each costs less than the other at some prices. Costs go by shares of each "
                      "book's own defaults and survivors.\n", ' are u:v = 40p:360q in the book of Harbour, 200p:4800q in that of Valley.\n'):
             self.assertIn(line, text)
+
+    def test_names_are_shown_plainly(self) -> None:
+        path = self.put('a.csv', 'name,A\x1b[31mB\nobligors,defaults,announced\n5,2,0\n1,1,0\n')
+        for words in ((path, VALLEY.file, '--shares'), (path, path)):
+            self.assertNotIn('\x1b', self.answered('compare', *words).out)
 
     def test_a_verdict_of_each_kind(self) -> None:
         for first, second, verdict in ((G[0], times(G[1], 3, 2), 'first'), (times(G[1], 1, 4), G[0], 'second'), (H[0], times(H[1], 2, 2), 'crossing'),

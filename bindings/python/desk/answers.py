@@ -1,4 +1,4 @@
-"""What a desk answers. Fractions are exact, and remember how document 01 writes them: not reduced."""
+"""What a desk answers. Fractions are exact, and remember how the documents write them: not reduced."""
 from __future__ import annotations
 
 from enum import Enum
@@ -8,7 +8,7 @@ from typing import NamedTuple
 
 
 class WrittenFraction(Fraction):
-    """A fraction by its value, with the numerator and denominator as document 01 writes them.
+    """A fraction by its value, with the numerator and denominator as the documents write them.
 
     >>> gini = WrittenFraction(2050, 2500)
     >>> gini, gini.written, gini == Fraction(41, 50)
@@ -56,7 +56,7 @@ def decimal(value: Fraction, places: int) -> str:
 
 
 class Price(NamedTuple):
-    """Prices of a missed default (u) and of a survivor turned away (v)."""
+    """Prices of a missed default (u) and of a survivor turned away (v); on shares, of missing all defaults and of turning away all survivors."""
     u: int
     v: int
 

@@ -84,7 +84,7 @@ class Comparison(NamedTuple):
     second: CountCosts | ShareCosts
 
 
-def compared(desk: Desk, shares: bool = False) -> Comparison:
+def compared(desk: Desk, shares: bool) -> Comparison:
     """The comparison by counts, or on shares. Refuses as compare does, on shares as compare_shares."""
     verdict, costs = (desk.compare_shares(), ShareCosts) if shares else (desk.compare(), CountCosts)
     return Comparison(verdict, costs(desk, 1), costs(desk, 2))

@@ -39,7 +39,7 @@ fn say_dearer(verdict: Verdict) {
     }
 }
 
-fn words(verdict: Verdict) -> &'static str {
+fn sentence(verdict: Verdict) -> &'static str {
     match verdict {
         Verdict::Equal => "The scales cost the same at all prices.",
         Verdict::First { .. } => "The first scale is better.",
@@ -55,7 +55,7 @@ fn compare(desk: &Desk, on_shares: bool) -> Result<(), Box<dyn Error>> {
         desk.compare()
     };
     let verdict = compared.map_err(|refusal| format!("compare: {refusal}"))?;
-    println!("{}", words(verdict));
+    println!("{}", sentence(verdict));
     if on_shares {
         say_dearer(verdict);
         return Ok(());
@@ -85,8 +85,8 @@ fn main() -> ExitCode {
     let words: Vec<String> = std::env::args().collect();
     let words: Vec<&str> = words.iter().map(String::as_str).collect();
     let outcome = run(&words[1..]);
-    if let Err(words) = &outcome {
-        eprintln!("{words}");
+    if let Err(error) = &outcome {
+        eprintln!("{error}");
     }
     ExitCode::from(u8::from(outcome.is_err()))
 }

@@ -190,7 +190,7 @@ fn tables_of_100_000_obligors_at_most() {
 }
 
 #[test]
-fn places_are_tested_in_order() {
+fn an_empty_place_comes_first_then_no_defaults() {
     let larger: Rows = &[(MAX_OBLIGORS_ON_SHARES + 1, 0)];
     for (first, second) in [
         (None, None),

@@ -48,7 +48,7 @@ fn both_totals(first: &[u32], second: &[u32]) -> PairAnswer
     PairAnswer::Totals(a, b)
 }
 
-// The refusal that both places answered.
+// The refusal in the answer of both places.
 fn refused(pair: PairAnswer) -> CompareAnswer
     ensures { λ r. ⌜ SameRefusal (pairSays pair) (compareSays r) ⌝ }
 {

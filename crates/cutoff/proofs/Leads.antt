@@ -9,32 +9,26 @@ use lib.IntN.{ℤ, pos, subℕ, _+ℤ_, _-ℤ_, _*ℤ_}
 use lib.Signed.{ltZ}
 use mir.Syntax.{w64}
 use mir.Val.{SFits, toZ, ofZ}
-use mir.ValLaws.{toZ-pos, toZ-ofZ}
+use mir.ValLaws.{toZ-ofZ}
 use Rattle.table.specs.Table.{Table, survivors, defaultsIn, survivorsIn}
-use Rattle.table.proofs.Signed.{size-of, mag-le, plus-pos, minus-pos, times-sub, sub-order}
+use Rattle.table.proofs.Signed.{size-of, size-fits, plus-pos, minus-pos, times-sub, sub-order}
 use Rattle.cutoff.specs.declared.Counts.{Counts}
 use Rattle.cutoff.specs.declared.Lead.{Lead}
 use Rattle.cutoff.specs.declared.Weights.{Weights}
-use Rattle.cutoff.specs.Sweep.{countsIn, Few, Small, ahead, behind, caughtAfter, lostAfter, Leads, SmallIn}
+use Rattle.cutoff.specs.Sweep.{mostPairs, countsIn, Few, FitsSigned, ahead, behind, caughtAfter, lostAfter, Leads, SmallIn}
 use Rattle.cutoff.proofs.Cost.{drop-le}
 use Rattle.cutoff.proofs.Held.{gradeBefore, Next}
 
--- Small numbers, as the machine holds them.
+-- Numbers that fit, as the machine holds them.
 
-small-fits : (z : ℤ) → Small z → SFits w64 z
-small-fits z h = record { sfits = omega (arith, mag-le z) }
+pub fits-as : {y z : ℤ} → y ≡ z → FitsSigned z → SFits w64 y
+fits-as {y} {z} e h = rw e (size-fits z (omega arith))
 
-pub fits-as : {y z : ℤ} → y ≡ z → Small z → SFits w64 y
-fits-as {y} {z} e h = rw e (small-fits z h)
+pub fitting-back : (z : ℤ) → FitsSigned z → toZ w64 (ofZ w64 z) ≡ z
+fitting-back z h = toZ-ofZ w64 z (size-fits z (omega arith))
 
-pub small-back : (z : ℤ) → Small z → toZ w64 (ofZ w64 z) ≡ z
-small-back z h = toZ-ofZ w64 z (small-fits z h)
-
-pub count-back : (n : ℕ) → n ≤ 100_000_000_000 → toZ w64 n ≡ pos n
-count-back n h = toZ-pos w64 n (omega arith)
-
-small-sub : (a b : ℕ) → a ≤ 6_250_000_000_000_000_000 → b ≤ 6_250_000_000_000_000_000 → Small (subℕ a b)
-small-sub a b h k = omega (arith, size-of a b)
+sub-fits : (a b : ℕ) → a ≤ mostPairs → b ≤ mostPairs → FitsSigned (subℕ a b)
+sub-fits a b h k = omega (arith, size-of a b)
 
 -- All that a scale counts is few.
 abbrev pub FewIn : Weights → Table → Type 0
@@ -69,13 +63,13 @@ module _ {w : Weights} {t : Table} {k y x : ℕ} {l : Lead} (is : Leads w t k y 
     pub goes-ahead : {r : Lead} → r ≡ ahead l (countsIn w (gradeBefore t k)) → Leads w t (k - 1) y x r
     goes-ahead e = rw e record { from = omega (arith, is .from); defaults = ahead-defaults; survivors = ahead-survivors }
 
-    pub ahead-small : FewIn w t → y ≤ 100_000_000_000 → x ≤ 100_000_000_000
-        → Small (l .defaults +ℤ pos (w .defaults * gradeBefore t k .defaults))
-        × Small (l .survivors +ℤ pos (w .survivors * survivors (gradeBefore t k)))
-    ahead-small few few-y few-x =
+    pub ahead-fits : FewIn w t → y ≤ 100_000_000_000 → x ≤ 100_000_000_000
+        → FitsSigned (l .defaults +ℤ pos (w .defaults * gradeBefore t k .defaults))
+        × FitsSigned (l .survivors +ℤ pos (w .survivors * survivors (gradeBefore t k)))
+    ahead-fits few few-y few-x =
         let f = few-worst w t (k - 1) few in (
-          rw ahead-defaults (small-sub (caughtAfter w t (k - 1)) y (omega (arith, f)) (omega arith)),
-          rw ahead-survivors (small-sub (lostAfter w t (k - 1)) x (omega (arith, f)) (omega arith)),
+          rw ahead-defaults (sub-fits (caughtAfter w t (k - 1)) y (omega (arith, f)) (omega arith)),
+          rw ahead-survivors (sub-fits (lostAfter w t (k - 1)) x (omega (arith, f)) (omega arith)),
         )
 
   -- or of the other scale.
@@ -89,12 +83,12 @@ module _ {w : Weights} {t : Table} {k y x : ℕ} {l : Lead} (is : Leads w t k y 
     pub falls-behind : {r : Lead} → r ≡ behind l c → Leads w t k (y + c .defaults) (x + c .survivors) r
     falls-behind e = rw e record { from = is .from; defaults = behind-defaults; survivors = behind-survivors }
 
-    pub behind-small : FewIn w t → y + c .defaults ≤ 100_000_000_000 → x + c .survivors ≤ 100_000_000_000
-        → Small (l .defaults -ℤ pos (c .defaults)) × Small (l .survivors -ℤ pos (c .survivors))
-    behind-small few few-y few-x =
+    pub behind-fits : FewIn w t → y + c .defaults ≤ 100_000_000_000 → x + c .survivors ≤ 100_000_000_000
+        → FitsSigned (l .defaults -ℤ pos (c .defaults)) × FitsSigned (l .survivors -ℤ pos (c .survivors))
+    behind-fits few few-y few-x =
         let f = few-worst w t k few in (
-          rw behind-defaults (small-sub (caughtAfter w t k) (y + c .defaults) (omega (arith, f)) (omega arith)),
-          rw behind-survivors (small-sub (lostAfter w t k) (x + c .survivors) (omega (arith, f)) (omega arith)),
+          rw behind-defaults (sub-fits (caughtAfter w t k) (y + c .defaults) (omega (arith, f)) (omega arith)),
+          rw behind-survivors (sub-fits (lostAfter w t k) (x + c .survivors) (omega (arith, f)) (omega arith)),
         )
 
     -- What it costs at the break-even prices of a block.
@@ -105,14 +99,14 @@ module _ {w : Weights} {t : Table} {k y x : ℕ} {l : Lead} (is : Leads w t k y 
     cost-defaults : pos (c .survivors) *ℤ l .defaults ≡ subℕ (c .survivors * caughtAfter w t k) (c .survivors * y)
     cost-defaults = rw (is .defaults) (times-sub (c .survivors) (caughtAfter w t k) y)
 
-    pub costs-small : SmallIn w t c → c .survivors * y ≤ 6_250_000_000_000_000_000 → c .defaults * x ≤ 6_250_000_000_000_000_000
-        → Small (pos (c .defaults) *ℤ l .survivors) × Small (pos (c .survivors) *ℤ l .defaults)
-    costs-small small few-y few-x =
+    pub costs-fit : SmallIn w t c → c .survivors * y ≤ mostPairs → c .defaults * x ≤ mostPairs
+        → FitsSigned (pos (c .defaults) *ℤ l .survivors) × FitsSigned (pos (c .survivors) *ℤ l .defaults)
+    costs-fit small few-y few-x =
         let f = drop-le t k in
         let s = mul-le-mul-left (c .defaults) (mul-le-mul-left (w .survivors) (f .1)) in
         let d = mul-le-mul-left (c .survivors) (mul-le-mul-left (w .defaults) (f .0)) in (
-          rw cost-survivors (small-sub (c .defaults * lostAfter w t k) (c .defaults * x) (omega (arith, small .0, s)) few-x),
-          rw cost-defaults (small-sub (c .survivors * caughtAfter w t k) (c .survivors * y) (omega (arith, small .1, d)) few-y),
+          rw cost-survivors (sub-fits (c .defaults * lostAfter w t k) (c .defaults * x) (omega (arith, small .0, s)) few-x),
+          rw cost-defaults (sub-fits (c .survivors * caughtAfter w t k) (c .survivors * y) (omega (arith, small .1, d)) few-y),
         )
 
     pub costs-compare : ltZ (pos (c .defaults) *ℤ l .survivors) (pos (c .survivors) *ℤ l .defaults)

@@ -5,7 +5,7 @@ use native.Mathlib.Nat.{mul-one}
 use native.Mathlib.Omega.{arith}
 use Rattle.table.specs.Table.{Table, Sound, defaultsIn, survivorsIn}
 use Rattle.table.proofs.Arithmetic.{counts-le}
-use Rattle.table.proofs.Sums.{obligors-split}
+use Rattle.table.proofs.Suffix.{sound-small, few-counts}
 use Rattle.cutoff.specs.Verdict.{DearerAt, IsVerdict}
 use Rattle.cutoff.specs.Sweep.{inWeights, Matched}
 use Rattle.cutoff.specs.declared.Price.{Price}
@@ -17,31 +17,31 @@ use Rattle.cutoff.proofs.Judged.{DearerInWeights, IsVerdictInWeights, W
 abbrev pub once : Weights
 once = record { defaults = 1; survivors = 1 }
 
--- Its totals are small.
-few : {t : Table} → Sound t → (defaultsIn t ≤ 1_000_000) × (survivorsIn t ≤ 1_000_000)
-few {t} sound = let all = obligors-split t (sound .counted) in (omega (arith, sound .total), omega (arith, sound .total))
-
 pub once-weighable : {t : Table} → Sound t → Weighable once once t
 once-weighable sound =
+    let few = few-counts (sound-small sound) in
     record {
       some-defaults = omega arith;
       some-survivors = omega arith;
       light = (omega arith, omega arith);
-      few-missed = omega (arith, few sound);
-      few-turned-away = omega (arith, few sound);
+      few-missed = omega (arith, few);
+      few-turned-away = omega (arith, few);
     }
 
 module _ (t₁ t₂ : Table) (sound₁ : Sound t₁) (sound₂ : Sound t₂) where
+  few : (defaultsIn t₁ ≤ 1_000_000) × (survivorsIn t₁ ≤ 1_000_000)
+  few = few-counts (sound-small sound₁)
+
   pub once-matched : defaultsIn t₁ ≡ defaultsIn t₂ → survivorsIn t₁ ≡ survivorsIn t₂ → Matched (inWeights once t₁) (inWeights once t₂)
   once-matched d s =
       rw (weighted-once t₁ (sound₁ .counted), weighted-once t₂ (sound₂ .counted))
-      (record { same-defaults = d; same-survivors = s; few-pairs = omega (arith, counts-le (few sound₁ .0) (few sound₁ .1)) })
+      (record { same-defaults = d; same-survivors = s; few-pairs = omega (arith, counts-le (few .0) (few .1)) })
 
   dearer-once : (p : Price) → DearerInWeights once once t₁ t₂ p → DearerAt t₁ t₂ p
   dearer-once p d =
       record {
-        missed = omega (arith, d .missed, few sound₁);
-        turned-away = omega (arith, d .turned-away, few sound₁);
+        missed = omega (arith, d .missed, few);
+        turned-away = omega (arith, d .turned-away, few);
         more = rw (weighted-once t₁ (sound₁ .counted), weighted-once t₂ (sound₂ .counted), mul-one (p .u), mul-one (p .v)) at (d .more);
       }
 

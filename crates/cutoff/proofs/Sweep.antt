@@ -22,7 +22,7 @@ use Rattle.cutoff.specs.declared.Counts.{Counts}
 use Rattle.cutoff.specs.declared.Lead.{Lead}
 use Rattle.cutoff.specs.declared.Weights.{Weights}
 use Rattle.cutoff.specs.Cutoff.{NoDearer}
-use Rattle.cutoff.specs.Sweep.{scaleIn, Sweepable, inWeights, Light, Matched, countsIn, Few, Small, ahead, behind, caughtAfter, lostAfter}
+use Rattle.cutoff.specs.Sweep.{scaleIn, Sweepable, inWeights, Light, Matched, mostPairs, countsIn, Few, FitsSigned, ahead, behind, caughtAfter, lostAfter}
 use Rattle.cutoff.specs.Sweep.{Leads, IsLead, acceptedIn, SmallIn, Turned, DearerAtBlock}
 use Rattle.cutoff.proofs.Cost.{dearer, no-dearer, drop-le}
 use Rattle.cutoff.proofs.Odds.{OddsBelow, OddsRise, Away, odds-at-most, rising-odds}
@@ -30,7 +30,7 @@ use Rattle.cutoff.proofs.Weighted.{weigh-survivors, weighted-defaults, 
 use Rattle.cutoff.proofs.Cuts.{Cuts, odds-worse, accepted-le, accepted-before, accepted-after, accepted-fewer}
 use Rattle.cutoff.proofs.Cuts.{accepted-cuts, cuts-at, cuts-dearer, cuts-no-dearer}
 use Rattle.cutoff.proofs.Held.{gradeBefore, Next, next, Words, words}
-use Rattle.cutoff.proofs.Leads.{FewIn, few-worst, with-next, few-next, goes-ahead, falls-behind, behind-small, costs-small, costs-compare}
+use Rattle.cutoff.proofs.Leads.{FewIn, few-worst, with-next, few-next, goes-ahead, falls-behind, behind-fits, costs-fit, costs-compare}
 
 -- The next better block, as the code reads it.
 pub record Turn (w : List ℕ) (from k : ℕ) : Type 0 where
@@ -90,7 +90,7 @@ module _ {w : Weights} {at : Counts} {t : Table} {l₀ l : Lead} (on : Turning w
   module _ (n : Next t (on .accepted)) {c : Counts} (is : c ≡ countsIn w g) where
     -- What the next better block costs is small where all of the scale is.
     pub turning-small : SmallIn w t at
-        → (at .defaults * c .survivors ≤ 6_250_000_000_000_000_000) × (at .survivors * c .defaults ≤ 6_250_000_000_000_000_000)
+        → (at .defaults * c .survivors ≤ mostPairs) × (at .survivors * c .defaults ≤ mostPairs)
     turning-small small =
         let s : survivors g ≤ survivorsIn t = omega (arith, n .few-survivors) in
         let d : g .defaults ≤ defaultsIn t = omega (arith, n .few-defaults) in
@@ -155,7 +155,7 @@ pub record Scales (w₁ w₂ : Weights) (t₁ t₂ : Table) : Type 0 where
   pub few₂ : FewIn w₂ t₂
   pub same-defaults : w₁ .defaults * defaultsIn t₁ ≡ w₂ .defaults * defaultsIn t₂
   pub same-survivors : w₁ .survivors * survivorsIn t₁ ≡ w₂ .survivors * survivorsIn t₂
-  pub few-pairs : w₁ .defaults * defaultsIn t₁ * (w₁ .survivors * survivorsIn t₁) ≤ 6_250_000_000_000_000_000
+  pub few-pairs : w₁ .defaults * defaultsIn t₁ * (w₁ .survivors * survivorsIn t₁) ≤ mostPairs
 
 pub scales : {first second : List ℕ} (w₁ w₂ : Weights) → Sweepable first → Sweepable second → Light w₁ → Light w₂
     → Matched (inWeights w₁ (scaleIn first)) (inWeights w₂ (scaleIn second)) → Scales w₁ w₂ (scaleIn first) (scaleIn second)
@@ -217,7 +217,7 @@ module _ {w₁ w₂ : Weights} {t₁ t₂ : Table} {i : ℕ} {l : Lead} (known :
   v = w₁ .defaults * b .defaults
 
   -- All that both scales count costs little,
-  small : (v * (w₁ .survivors * survivorsIn t₁) ≤ 6_250_000_000_000_000_000) × (u * (w₁ .defaults * defaultsIn t₁) ≤ 6_250_000_000_000_000_000)
+  small : (v * (w₁ .survivors * survivorsIn t₁) ≤ mostPairs) × (u * (w₁ .defaults * defaultsIn t₁) ≤ mostPairs)
   small =
       let d : b .defaults ≤ defaultsIn t₁ = omega (arith, here .few-defaults) in
       let s : survivors b ≤ survivorsIn t₁ = omega (arith, here .few-survivors) in (
@@ -270,18 +270,18 @@ module _ {w₁ w₂ : Weights} {t₁ t₂ : Table} {i : ℕ} {l : Lead} (known :
     leads-at : Leads w₂ t₂ k₂ (caughtAfter w₁ t₁ (inv .left)) (lostAfter w₁ t₁ (inv .left)) r
     leads-at = rw at at (turned (inv .accepted) (caughtAfter w₁ t₁ (inv .left)) (lostAfter w₁ t₁ (inv .left)) (inv .leads))
 
-    pub small-costs : Small (pos (a .defaults) *ℤ r .survivors) × Small (pos (a .survivors) *ℤ r .defaults)
-    small-costs =
+    pub costs-fitting : FitsSigned (pos (a .defaults) *ℤ r .survivors) × FitsSigned (pos (a .survivors) *ℤ r .defaults)
+    costs-fitting =
         let f = drop-le t₁ (inv .left) in
         let d = mul-le-mul-left u (mul-le-mul-left (w₁ .defaults) (f .0)) in
         let s = mul-le-mul-left v (mul-le-mul-left (w₁ .survivors) (f .1)) in
-        rw at (costs-small leads-at (countsIn w₁ b) (rw at at small₂) (omega (arith, d, small .1)) (omega (arith, s, small .0)))
+        rw at (costs-fit leads-at (countsIn w₁ b) (rw at at small₂) (omega (arith, d, small .1)) (omega (arith, s, small .0)))
 
-    pub small-passed : Small (r .defaults -ℤ pos (a .defaults)) × Small (r .survivors -ℤ pos (a .survivors))
-    small-passed =
+    pub passed-fitting : FitsSigned (r .defaults -ℤ pos (a .defaults)) × FitsSigned (r .survivors -ℤ pos (a .survivors))
+    passed-fitting =
         let f = few-worst w₁ t₁ (inv .left - 1) (known .few₁) in
         let n = with-next w₁ here in
-        rw at (behind-small leads-at (countsIn w₁ b) (known .few₂) (omega (arith, f, n)) (omega (arith, f, n)))
+        rw at (behind-fits leads-at (countsIn w₁ b) (known .few₂) (omega (arith, f, n)) (omega (arith, f, n)))
 
     -- What the two sides of the code's test come to.
     abbrev side₁ : ℕ

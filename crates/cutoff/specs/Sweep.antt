@@ -45,11 +45,15 @@ inWeights w t = weighted (w .defaults) (w .survivors) t
 abbrev pub Light : Weights → Type 0
 Light w = (w .defaults ≤ 100_000) × (w .survivors ≤ 100_000)
 
--- Two scales with equally many defaults and equally many survivors, few enough that their product fits in 64 bits with a sign.
+-- the most pairs of a default and a survivor in weights: 2,500,000,000 squared, which fits in 64 bits with a sign
+abbrev pub mostPairs : ℕ
+mostPairs = 6_250_000_000_000_000_000
+
+-- Two scales with equally many defaults, equally many survivors and no more pairs than that.
 pub record Matched (t₁ t₂ : Table) : Type 0 where
   pub same-defaults : defaultsIn t₁ ≡ defaultsIn t₂
   pub same-survivors : survivorsIn t₁ ≡ survivorsIn t₂
-  pub few-pairs : defaultsIn t₁ * survivorsIn t₁ ≤ 6_250_000_000_000_000_000
+  pub few-pairs : defaultsIn t₁ * survivorsIn t₁ ≤ mostPairs
 
 -- The search.
 
@@ -62,8 +66,8 @@ abbrev pub Few : Counts → Type 0
 Few c = (c .defaults ≤ 100_000_000_000) × (c .survivors ≤ 100_000_000_000)
 
 -- well within 64 bits with a sign
-abbrev pub Small : ℤ → Type 0
-Small z = natAbs z ≤ 6_250_000_000_000_000_000
+abbrev pub FitsSigned : ℤ → Type 0
+FitsSigned z = natAbs z ≤ mostPairs
 
 -- the lead once the second turns one more block away,
 abbrev pub ahead : Lead → Counts → Lead
@@ -108,14 +112,14 @@ acceptedIn w at t = acceptedAt (at .survivors * w .defaults) (at .defaults * w .
 -- What all survivors, and all defaults, of t cost at these is small.
 abbrev pub SmallIn : Weights → Table → Counts → Type 0
 SmallIn w t at =
-    (at .defaults * (w .survivors * survivorsIn t) ≤ 6_250_000_000_000_000_000)
-    × (at .survivors * (w .defaults * defaultsIn t) ≤ 6_250_000_000_000_000_000)
+    (at .defaults * (w .survivors * survivorsIn t) ≤ mostPairs)
+    × (at .survivors * (w .defaults * defaultsIn t) ≤ mostPairs)
 
 -- Whatever cutoff l is ahead of, r is the lead over it of the one that accepts so many.
 abbrev pub Turned : Weights → Counts → Table → Lead → Lead → Type 0
 Turned w at t l r = (k y x : ℕ) → Leads w t k y x l → Leads w t (acceptedIn w at t) y x r
 
--- At the break-even prices of b, a block of t₁, t₁ costs more than t₂, each in its weights.
+-- At the break-even prices of b, which has no more defaults and no more survivors than t₁, t₁ costs more than t₂, each in its weights.
 pub record DearerAtBlock (w₁ w₂ : Weights) (t₁ t₂ : Table) (b : Block) : Type 0 where
   pub counted : Counted (asGrade b)
   pub few-defaults : b .defaults ≤ defaultsIn t₁

@@ -11,7 +11,7 @@ ghost use Rattle.table.specs.Counts.{largest};
 ghost use Rattle.pooling.specs.Pool.{asGrade};
 ghost use Rattle.cutoff.specs.Cutoff.{cheapestOf};
 ghost use Rattle.cutoff.specs.Verdict.{IsVerdict};
-ghost use Rattle.cutoff.specs.Sweep.{scaleIn, Sweepable, inWeights, Light, Matched, countsIn, Few, Small};
+ghost use Rattle.cutoff.specs.Sweep.{scaleIn, Sweepable, inWeights, Light, Matched, mostPairs, countsIn, Few, FitsSigned};
 ghost use Rattle.cutoff.specs.Sweep.{ahead, behind, IsLead, acceptedIn, SmallIn, Turned};
 ghost use Rattle.cutoff.specs.Sweep.{Finds, priceIn, SmallPrice, dearerAt, verdictOf};
 ghost use Rattle.cutoff.specs.Claims.{Claims};
@@ -119,7 +119,7 @@ impl Counts {
     // Whether at this block's break-even prices, its survivors of a missed default and its defaults of a survivor turned away, turning
     // another's survivors away costs no more than missing its defaults.
     fn turns_away(self, b: Counts) -> bool
-        requires { ⌜ (self .defaults * b .survivors ≤ 6_250_000_000_000_000_000) × (self .survivors * b .defaults ≤ 6_250_000_000_000_000_000) ⌝ }
+        requires { ⌜ (self .defaults * b .survivors ≤ mostPairs) × (self .survivors * b .defaults ≤ mostPairs) ⌝ }
         ensures { λ r. ⌜ r ≡ leb (self .defaults * b .survivors) (self .survivors * b .defaults) ⌝ }
     {
         self.defaults * b.survivors <= self.survivors * b.defaults
@@ -150,7 +150,7 @@ impl Lead {
     fn with(self, b: Counts) -> Lead
         requires words { ⌜ 3 ≤ self .from ⌝ }
         requires few { ⌜ Few b ⌝ }
-        requires small { ⌜ Small (self .defaults +ℤ pos (b .defaults)) × Small (self .survivors +ℤ pos (b .survivors)) ⌝ }
+        requires small { ⌜ FitsSigned (self .defaults +ℤ pos (b .defaults)) × FitsSigned (self .survivors +ℤ pos (b .survivors)) ⌝ }
         ensures { λ r. ⌜ r ≡ ahead self b ⌝ }
     {
         Lead {
@@ -163,7 +163,7 @@ impl Lead {
     // The first turns its next better block away, too.
     fn passed(self, at: Counts) -> Lead
         requires few { ⌜ Few at ⌝ }
-        requires small { ⌜ Small (self .defaults -ℤ pos (at .defaults)) × Small (self .survivors -ℤ pos (at .survivors)) ⌝ }
+        requires small { ⌜ FitsSigned (self .defaults -ℤ pos (at .defaults)) × FitsSigned (self .survivors -ℤ pos (at .survivors)) ⌝ }
         ensures { λ r. ⌜ r ≡ behind self at ⌝ }
     {
         Lead {
@@ -195,7 +195,7 @@ impl Lead {
     // is more for the first exactly if u times the lead in y is more than v times the lead in x.
     fn shows_dearer(self, at: Counts) -> bool
         requires few { ⌜ Few at ⌝ }
-        requires small { ⌜ Small (pos (at .defaults) *ℤ self .survivors) × Small (pos (at .survivors) *ℤ self .defaults) ⌝ }
+        requires small { ⌜ FitsSigned (pos (at .defaults) *ℤ self .survivors) × FitsSigned (pos (at .survivors) *ℤ self .defaults) ⌝ }
         ensures { λ r. ⌜ r ≡ ltZ (pos (at .defaults) *ℤ self .survivors) (pos (at .survivors) *ℤ self .defaults) ⌝ }
     {
         (at.defaults as i64) * self.survivors < (at.survivors as i64) * self.defaults

@@ -70,16 +70,16 @@ kind e f (accepted v) c = let i = f v (c .1) in rw (i .0, i .1) at (kind-of v)
 kind e f (refused n) c = absurd (c .1 (sym (c .0) ∙ e))
 
 module _ (t₁ t₂ : Table) where
-  counted : (v : Verdict) → IsVerdict (tableOf (placeOf t₁)) (tableOf (placeOf t₂)) v
+  kind-by-counts : (v : Verdict) → IsVerdict (tableOf (placeOf t₁)) (tableOf (placeOf t₂)) v
       → (callsFirst v ≡ neverDearer t₁ t₂) × (callsSecond v ≡ neverDearer t₂ t₁)
-  counted v c = let i : IsVerdict t₁ t₂ v = simp table-placed at c in (i .first, i .second)
+  kind-by-counts v c = let i : IsVerdict t₁ t₂ v = simp table-placed at c in (i .first, i .second)
 
   allowed : compareFault (placeOf t₁) (placeOf t₂) ≡ 0 → (v : Verdict) → IsVerdict t₁ t₂ v → Between t₁ t₂ (accepted v)
   allowed e v i = (e, simp table-placed i)
 
-  shared : (v : Verdict) → IsVerdictByShares (tableOf (placeOf t₁)) (tableOf (placeOf t₂)) v
+  kind-by-shares : (v : Verdict) → IsVerdictByShares (tableOf (placeOf t₁)) (tableOf (placeOf t₂)) v
       → (callsFirst v ≡ neverDearerByShares t₁ t₂) × (callsSecond v ≡ neverDearerByShares t₂ t₁)
-  shared v c = let i : IsVerdictByShares t₁ t₂ v = simp table-placed at c in (i .first, i .second)
+  kind-by-shares v c = let i : IsVerdictByShares t₁ t₂ v = simp table-placed at c in (i .first, i .second)
 
   allowed-shares : sharesFault (placeOf t₁) (placeOf t₂) ≡ 0 → (v : Verdict) → IsVerdictByShares t₁ t₂ v → OnShares t₁ t₂ (accepted v)
   allowed-shares e v i = (e, simp table-placed i)
@@ -125,14 +125,14 @@ Worked = record {
   f-pietra = (refl, refl);
   r1-plus = (refl, refl, refl, refl);
   r1-minus = (refl, refl, refl, refl);
-  g = kind refl (counted fine coarse);
+  g = kind refl (kind-by-counts fine coarse);
   g-shown = allowed fine coarse refl _ record {
     first = refl;
     second = refl;
     first-dearer = λ p h. absurd h;
     second-dearer = λ p h. rw h (dearer coarse fine (price 1 1) (lit≤ tt) (lit≤ tt) (lit< tt));
   };
-  h = kind refl (counted worstApart bestApart);
+  h = kind refl (kind-by-counts worstApart bestApart);
   h-shown = allowed worstApart bestApart refl _ record {
     first = refl;
     second = refl;
@@ -141,7 +141,7 @@ Worked = record {
   };
   h-first-dearer = (cheapest-is worstApart 1 1, cheapest-is bestApart 1 1);
   h-second-dearer = (cheapest-is worstApart 1 3, cheapest-is bestApart 1 3);
-  i = kind refl (counted five five);
+  i = kind refl (kind-by-counts five five);
   i-shown = allowed five five refl _ record {
     first = refl;
     second = refl;
@@ -169,7 +169,7 @@ Worked = record {
   r5-later-row = refl;
   r5-nine = refl;
   r5-eleven = refl;
-  r6-equal = kind refl (shared coarse coarseTwice);
+  r6-equal = kind refl (kind-by-shares coarse coarseTwice);
   r6-equal-shown = allowed-shares coarse coarseTwice refl _ record {
     first = refl;
     second = refl;
@@ -177,7 +177,7 @@ Worked = record {
     second-dearer = λ p h. absurd h;
   };
   r6-counts = refl;
-  r6-first = kind refl (shared fine coarseTwice);
+  r6-first = kind refl (kind-by-shares fine coarseTwice);
   r6-first-shown = allowed-shares fine coarseTwice refl _ record {
     first = refl;
     second = refl;
@@ -185,7 +185,7 @@ Worked = record {
     second-dearer = λ p h. rw h (dearer-shares coarseTwice fine (mixed (lit≤ tt, (lit≤ tt, tt)) (lit≤ tt) (lit≤ tt))
         (mixed (lit≤ tt, (lit≤ tt, (lit≤ tt, tt))) (lit≤ tt) (lit≤ tt)) (price 1 1) (lit≤ tt) (lit≤ tt) (lit< tt));
   };
-  r6-crossing = kind refl (shared worstApart bestApartTwice);
+  r6-crossing = kind refl (kind-by-shares worstApart bestApartTwice);
   r6-crossing-shown = allowed-shares worstApart bestApartTwice refl _ record {
     first = refl;
     second = refl;
@@ -194,12 +194,18 @@ Worked = record {
     second-dearer = λ p h. rw h (dearer-shares bestApartTwice worstApart (mixed (lit≤ tt, (lit≤ tt, tt)) (lit≤ tt) (lit≤ tt))
         (mixed (lit≤ tt, (lit≤ tt, tt)) (lit≤ tt) (lit≤ tt)) (price 1 3) (lit≤ tt) (lit≤ tt) (lit< tt));
   };
-  r6-unlike = kind refl (shared manySurvived manyDefaulted);
-  r6-unlike-turned = kind refl (shared manyDefaulted manySurvived);
+  r6-unlike = kind refl (kind-by-shares manySurvived manyDefaulted);
+  r6-unlike-turned = kind refl (kind-by-shares manyDefaulted manySurvived);
   r6-unlike-costs = (cheapest-share manySurvived 1 1, cheapest-share manyDefaulted 1 1);
   r6-nothing-shown = λ q c.
       let i : IsVerdictByShares worstApart bestApartTwice (Crossing (price 0 0) q) = simp table-placed at (c .1) in
       absurd-less (i .first-dearer (price 0 0) refl .more _ _ (cheapest-share worstApart 0 0) (cheapest-share bestApartTwice 0 0));
+  r6-high-missed = λ q c.
+      let i : IsVerdictByShares worstApart bestApartTwice (Crossing (price 2_500_000_001 1) q) = simp table-placed at (c .1) in
+      absurd (omega (arith, i .first-dearer (price 2_500_000_001 1) refl .missed));
+  r6-high-turned-away = λ q c.
+      let i : IsVerdictByShares worstApart bestApartTwice (Crossing (price 1 2_500_000_001) q) = simp table-placed at (c .1) in
+      absurd (omega (arith, i .first-dearer (price 1 2_500_000_001) refl .turned-away));
   r6-costs = (cheapest-share worstApart 1 3, cheapest-share bestApartTwice 1 3);
   r6-most = refl;
   r6-first-larger = refl;

@@ -212,7 +212,8 @@ ComparisonsAgree =
 abbrev pub EveryTableHasOneCheapestShare : Type 0
 EveryTableHasOneCheapestShare = shares.CheapestShareIsCheapest × shares.CheapestShareIsUnique × shares.ShareCostsAreProper
 
--- However large the books: tables j and k times as large are as good as the tables, and have their verdict.
+-- However large the books: a table k times as large costs the same, and tables j and k times as large are as good as the tables and have their
+-- verdict.
 abbrev pub SizesPlayNoPart : Type 0
 SizesPlayNoPart = shares.MultiplesAreEqual × shares.MultiplesAreAsGood × shares.MultiplesKeepTheVerdict
 

@@ -205,6 +205,9 @@ pub record Worked : Type 0 where
   pub r6-unlike-costs : IsCheapestShare manySurvived 1 1 (ratio 12 16) × IsCheapestShare manyDefaulted 1 1 (ratio 16 16)
   -- prices at which both cost the same, here nothing, show nothing
   pub r6-nothing-shown : (q : Price) → OnShares worstApart bestApartTwice (accepted (Crossing (price 0 0) q)) → ⊥
+  -- "The pairs carried have prices up to 2,500,000,000": neither price of a pair is higher
+  pub r6-high-missed : (q : Price) → OnShares worstApart bestApartTwice (accepted (Crossing (price 2_500_000_001 1) q)) → ⊥
+  pub r6-high-turned-away : (q : Price) → OnShares worstApart bestApartTwice (accepted (Crossing (price 1 2_500_000_001) q)) → ⊥
   -- what these cost at the second pair: 1 times 2/3, two of three defaults missed; 1 times 6/6, all defaults missed, or 3 times 2/6
   pub r6-costs : IsCheapestShare worstApart 1 3 (ratio 6 9) × IsCheapestShare bestApartTwice 1 3 (ratio 36 36)
   -- "It takes tables of at most 100,000 obligors"; a larger one is 35 in either place, "after 24"

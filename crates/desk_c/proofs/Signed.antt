@@ -3,23 +3,20 @@ use Prim.Native.Nat.{ℕ, _≤_}
 use mathlib.Core.Path.{_≡_, refl}
 use mathlib.Core.List.{List, [], _∷_}
 use native.Mathlib.Omega.{arith}
-use lib.IntN.{ℤ, pos}
+use lib.IntN.{ℤ}
 use mir.Syntax.{w64}
 use mir.Val.{SFits, toZ, ofZ}
-use mir.ValLaws.{toZ-pos, toZ-ofZ}
+use mir.ValLaws.{toZ-ofZ}
 use Rattle.table.specs.Table.{Table, Sound}
 use Rattle.table.proofs.Arithmetic.{counts-le}
-use Rattle.table.proofs.Suffix.{sound-small}
+use Rattle.table.proofs.Signed.{count-back}
+use Rattle.table.proofs.Suffix.{sound-small, few-counts}
 use Rattle.cutoff.specs.declared.CheapestCutoff.{CheapestCutoff}
 use Rattle.cutoff.specs.Cutoff.{cheapestOf}
 use Rattle.cutoff.proofs.Cost.{cutoff-costs, cost-le-all}
 use Rattle.measures.specs.declared.Measures.{Measures}
-use Rattle.measures.proofs.Pairs.{few-counts}
 use Rattle.measures.proofs.Sizes.{FewPairs}
 use Rattle.desk_c.specs.Numbers.{cutoffNumbers, measuresNumbers}
-
-pub signed : (n : ℕ) → n ≤ 1_000_000_000_000_000_000 → toZ w64 n ≡ pos n
-signed n h = toZ-pos w64 n (omega arith)
 
 -- A cheapest cutoff costs no more than turning every survivor away.
 
@@ -36,7 +33,7 @@ few-costs {t} u v s priced =
     }
 
 pub stores-cutoff : (c : CheapestCutoff) → FewCosts c → toZ w64 (c .cutoff) ∷ toZ w64 (c .cost) ∷ [] ≡ cutoffNumbers c
-stores-cutoff c f = rw (signed (c .cutoff) (omega (arith, f .cutoff)), signed (c .cost) (omega (arith, f .cost))) refl
+stores-cutoff c f = rw (count-back (c .cutoff) (omega (arith, f .cutoff)), count-back (c .cost) (omega (arith, f .cost))) refl
 
 -- The numbers of a table's measures, each as 64 bits read as a signed number.
 abbrev pub stores : Measures → List ℤ
@@ -63,15 +60,15 @@ pub stores-numbers : (m : Measures) → Signed m → stores m ≡ measuresNumber
 stores-numbers m s =
     let f = s .few in
     rw (
-      signed (m .defaults) (omega (arith, f .counts)),
-      signed (m .survivors .0) (omega (arith, f .counts)),
+      count-back (m .defaults) (omega (arith, f .counts)),
+      count-back (m .survivors .0) (omega (arith, f .counts)),
       toZ-ofZ w64 (m .gini .numerator) (s .gini),
-      signed (m .gini .denominator) (omega (arith, f .gini)),
-      signed (m .roc .numerator) (omega (arith, f .roc)),
-      signed (m .roc .denominator) (omega (arith, f .roc)),
-      signed (m .cap .numerator) (omega (arith, f .cap)),
-      signed (m .cap .denominator) (omega (arith, f .cap)),
+      count-back (m .gini .denominator) (omega (arith, f .gini)),
+      count-back (m .roc .numerator) (omega (arith, f .roc)),
+      count-back (m .roc .denominator) (omega (arith, f .roc)),
+      count-back (m .cap .numerator) (omega (arith, f .cap)),
+      count-back (m .cap .denominator) (omega (arith, f .cap)),
       toZ-ofZ w64 (m .pietra .numerator) (s .pietra),
-      signed (m .pietra .denominator) (omega (arith, f .pietra)),
-      signed (m .cutoff) (omega (arith, f .cutoff)),
+      count-back (m .pietra .denominator) (omega (arith, f .pietra)),
+      count-back (m .cutoff) (omega (arith, f .cutoff)),
     ) refl

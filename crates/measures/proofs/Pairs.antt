@@ -5,7 +5,7 @@ use mathlib.Core.List.{[], _∷_}
 use native.Mathlib.Omega.{arith}
 use Rattle.table.specs.Table.{Table, defaultsIn, survivorsIn}
 use Rattle.table.proofs.Arithmetic.{counts-le}
-use Rattle.table.proofs.Suffix.{Small}
+use Rattle.table.proofs.Suffix.{Small, few-counts}
 use Rattle.measures.specs.Pairs.{concordant, discordant, tied}
 use Rattle.measures.specs.Measures.{pairs}
 
@@ -13,9 +13,6 @@ pub every-pair : (t : Table) → concordant t + discordant t + tied t ≡ pairs 
 unfolding concordant discordant tied defaultsIn survivorsIn
 every-pair [] = refl
 every-pair (r ∷ t) = omega (arith, every-pair t)
-
-pub few-counts : {t : Table} → Small t → (defaultsIn t ≤ 1_000_000) × (survivorsIn t ≤ 1_000_000)
-few-counts h = omega arith
 
 pub few-pairs : {t : Table} → Small t → concordant t + discordant t ≤ 1_000_000_000_000
 few-pairs {t} h = omega (arith, every-pair t, counts-le (few-counts h .0) (few-counts h .1))

@@ -5,12 +5,12 @@ use native.Mathlib.Nat.{mul-le-mul-left}
 use native.Mathlib.Omega.{arith}
 use Rattle.table.specs.Table.{Table, Grade, Every, Counted, Rated, Sound, survivors, obligorsIn}
 use Rattle.table.proofs.Arithmetic.{counts-le}
-use Rattle.table.proofs.Suffix.{sound-small}
+use Rattle.table.proofs.Suffix.{sound-small, few-counts}
 use Rattle.measures.specs.declared.Measures.{Measures}
 use Rattle.measures.specs.declared.UnsignedFraction.{UnsignedFraction}
 use Rattle.measures.specs.Measures.{measuresOf}
 use Rattle.measures.specs.Brier.{brierAt, brierSum, brierOf}
-use Rattle.measures.proofs.Pairs.{every-pair, few-counts}
+use Rattle.measures.proofs.Pairs.{every-pair}
 use Rattle.measures.proofs.Pietra.{farthest}
 
 -- The Brier score.

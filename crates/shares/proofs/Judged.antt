@@ -7,7 +7,7 @@ use mathlib.Core.Logic.{Iff·symm}
 use native.Mathlib.Nat.{mul-le-mul}
 use native.Mathlib.Omega.{arith}
 use native.Mathlib.Decide.{decLe}
-use Rattle.table.specs.Table.{Table, Mixed, defaultsIn, survivorsIn}
+use Rattle.table.specs.Table.{Table, defaultsIn, survivorsIn}
 use Rattle.table.specs.declared.Totals.{Totals}
 use Rattle.table.specs.Counts.{totalsOf}
 use Rattle.table.proofs.Arithmetic.{rearrange}
@@ -29,8 +29,8 @@ use Rattle.shares.proofs.Totals.{weightedBy, defaults-by, survivors-by,
 use Rattle.shares.proofs.Settled.{same-decision, never-dearer-by-shares}
 
 -- a table's totals, the weights of the other
-abbrev weightsOf : Table → Weights
-weightsOf t = record { defaults = defaultsIn t; survivors = survivorsIn t }
+abbrev tableWeights : Table → Weights
+tableWeights t = record { defaults = defaultsIn t; survivors = survivorsIn t }
 
 -- The sizes.
 
@@ -48,11 +48,8 @@ few-obligors t s = omega (arith, s .few, obligors-split t (s .sound .counted))
 few-pairs : (t : Table) → Shareable t → pairsIn t ≤ 2_500_000_000
 few-pairs t s = half-squared (defaultsIn t) (survivorsIn t) (few-obligors t s)
 
-mixed : {t : Table} → Shareable t → Mixed t
-mixed s = record { counted = s .sound .counted; defaulted = s .defaulted; survived = s .survived }
-
 module _ (t₁ t₂ : Table) (shareable₁ : Shareable t₁) (shareable₂ : Shareable t₂) where
-  matched : Matched (inWeights (weightsOf t₂) t₁) (inWeights (weightsOf t₁) t₂)
+  matched : Matched (inWeights (tableWeights t₂) t₁) (inWeights (tableWeights t₁) t₂)
   matched =
       let d = defaults-by t₁ t₂ in
       let s = survivors-by t₁ t₂ in
@@ -62,10 +59,10 @@ module _ (t₁ t₂ : Table) (shareable₁ : Shareable t₁) (shareable₂ : Sha
         few-pairs = rw (d, s) (omega (arith, mul-le-mul (few-pairs t₁ shareable₁) (few-pairs t₂ shareable₂)));
       }
 
-  weighable : Weighable (weightsOf t₂) (weightsOf t₁) t₁
+  weighable : Weighable (tableWeights t₂) (tableWeights t₁) t₁
   weighable = record {
-    some-defaults = shareable₂ .defaulted;
-    some-survivors = shareable₂ .survived;
+    some-defaults = shareable₂ .mixed .defaulted;
+    some-survivors = shareable₂ .mixed .survived;
     light = (omega (arith, few-obligors t₂ shareable₂), omega (arith, few-obligors t₂ shareable₂));
     few-missed = omega (arith, few-pairs t₁ shareable₁);
     few-turned-away = omega (arith, few-pairs t₁ shareable₁);
@@ -77,26 +74,26 @@ module _ (t₁ t₂ : Table) (shareable₁ : Shareable t₁) (shareable₂ : Sha
   kind : neverDearer (weightedBy t₁ t₂) (weightedBy t₂ t₁) ≡ neverDearerByShares t₁ t₂
   kind =
       same-decision (never-dearer (weightedBy t₁ t₂) (weightedBy t₂ t₁) (weighted-counted _ _ t₁) (same-survivors t₁ t₂))
-      (never-dearer-by-shares t₁ t₂ (mixed shareable₁) (mixed shareable₂))
-      (Iff·symm (shares-are-weights t₁ t₂ (mixed shareable₁) (mixed shareable₂)))
+      (never-dearer-by-shares t₁ t₂ (shareable₁ .mixed) (shareable₂ .mixed))
+      (Iff·symm (shares-are-weights t₁ t₂ (shareable₁ .mixed) (shareable₂ .mixed)))
 
   -- Its pairs: prices on shares, times S₂ S₁ and D₂ D₁, are prices in the weights.
-  pair : (p : Price) → DearerInWeights (weightsOf t₂) (weightsOf t₁) t₁ t₂ p → DearerByShares t₁ t₂ p
+  pair : (p : Price) → DearerInWeights (tableWeights t₂) (tableWeights t₁) t₁ t₂ p → DearerByShares t₁ t₂ p
   pair p dearer =
       let m : ℕ = p .u * (survivorsIn t₂ * survivorsIn t₁) in
       let n : ℕ = p .v * (defaultsIn t₂ * defaultsIn t₁) in
-      let shares = in-weights t₁ t₂ (mixed shareable₁) (mixed shareable₂) 1 (p .u) (p .v) m n (omega arith) (omega arith) (omega arith) in
+      let shares = in-weights t₁ t₂ (shareable₁ .mixed) (shareable₂ .mixed) 1 (p .u) (p .v) m n (omega arith) (omega arith) (omega arith) in
       let one = cheapest-is (weightedBy t₁ t₂) m n in
       let two = cheapest-is (weightedBy t₂ t₁) m n in
       record {
         missed = omega (arith, dearer .missed, few-pairs t₁ shareable₁);
         turned-away = omega (arith, dearer .turned-away, few-pairs t₁ shareable₁);
-        more = dearer-by-shares t₁ t₂ (mixed shareable₁) (mixed shareable₂) (p .u) (p .v)
+        more = dearer-by-shares t₁ t₂ (shareable₁ .mixed) (shareable₂ .mixed) (p .u) (p .v)
             (λ h. omega (arith, shares .0 h _ _ one two, dearer .more _ _ one two));
       }
 
 judged : (t₁ t₂ : Table) → Shareable t₁ → Shareable t₂ → (v : Verdict)
-    → IsVerdictInWeights (weightsOf t₂) (weightsOf t₁) t₁ t₂ v → IsVerdictByShares t₁ t₂ v
+    → IsVerdictInWeights (tableWeights t₂) (tableWeights t₁) t₁ t₂ v → IsVerdictByShares t₁ t₂ v
 judged t₁ t₂ shareable₁ shareable₂ v is = record {
   first = is .first ∙ kind t₁ t₂ shareable₁ shareable₂;
   second = is .second ∙ kind t₂ t₁ shareable₂ shareable₁;
@@ -110,7 +107,7 @@ pub record Holds (w : Weights) (n : Totals) (t : Table) : Type 0 where
   pub totals : n ≡ totalsOf t
   pub shareable : Shareable t
 
-weights-are : {w : Weights} {n : Totals} {t : Table} → Holds w n t → w ≡ weightsOf t
+weights-are : {w : Weights} {n : Totals} {t : Table} → Holds w n t → w ≡ tableWeights t
 unfolding totalsOf
 weights-are h = h .weights ∙ ap totalWeights (h .totals)
 

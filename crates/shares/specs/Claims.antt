@@ -18,11 +18,11 @@ use Rattle.shares.specs.Verdict.{IsVerdictByShares, SettlesByShares}
 abbrev pub CheapestShareIsCheapest : Type 0
 CheapestShareIsCheapest = (t : Table) (u v : ℕ) → IsCheapestShare t u v (cheapestShare t u v)
 
--- and has no other: two of them have the same value.
+-- and has no other: two of them have the same value, by cross-multiplication.
 abbrev pub CheapestShareIsUnique : Type 0
 CheapestShareIsUnique = (t : Table) (u v : ℕ) (c d : Fraction) → IsCheapestShare t u v c → IsCheapestShare t u v d → Equal c d
 
--- Cross-multiplication compares proper fractions only, those over at least 1. What a cutoff costs on shares is one.
+-- Cross-multiplication compares proper fractions only, those over at least 1. What a cutoff costs on shares is one, given a default and a survivor.
 abbrev pub ShareCostsAreProper : Type 0
 ShareCostsAreProper = (t : Table) → Mixed t → (u v g : ℕ) → Proper (shareCost t u v g)
 

@@ -15,7 +15,8 @@ use table::Totals;
 // The most obligors of a table that is compared on shares.
 pub const OBLIGORS_ON_SHARES: u32 = 100_000;
 
-// A table's totals as the weights of the other: times D1 S1 D2 S2 shares are counts, each table's in the other's totals.
+// A table's totals as the weights of the other. Times D1 S1 D2 S2 a cutoff's cost on shares is its cost on counts that are so weighted, at the
+// prices u S1 S2 and v D1 D2.
 fn weights_of(t: Totals) -> Weights
     ensures { λ r. ⌜ r ≡ totalWeights t ⌝ }
 {

@@ -1,16 +1,10 @@
 -- Numbers stored one part after the other are stored as one list.
-use Prim.Native.Nat.{ℕ, suc, _+_, _≤_, _<_}
+use Prim.Native.Nat.{ℕ, _+_, _≤_}
 use mathlib.Core.Path.{_≡_, sym, ap, _∙_}
-use mathlib.Core.List.{List, [], _∷_, _++_, append-assoc}
+use mathlib.Core.List.{List, _++_, append-assoc}
 use native.Mathlib.Omega.{arith}
-use lib.ListN.{length, set, take, drop}
-use lib.Seq.{paste, take-paste, drop-paste, drop-drop, take-append-add, take-all, set-split}
-
--- one number
-pub set-paste : (w : List ℕ) (at x : ℕ) → at < length w → set w at x ≡ paste w at (x ∷ []) 1
-set-paste w at x h =
-    let e : suc at ≡ at + 1 = omega arith in
-    set-split w at x h ∙ sym (append-assoc (take at w) (x ∷ []) (drop (suc at) w)) ∙ ap (λ (k : ℕ). take at w ++ (x ∷ []) ++ drop k w) e
+use lib.ListN.{length, take, drop}
+use lib.Seq.{paste, take-paste, drop-paste, drop-drop, take-append-add, take-all}
 
 -- a list t behind a list s
 module _ (w s t : List ℕ) (at n m k : ℕ) (behind : at + n ≡ k) (long : length s ≡ n) (some : m ≤ length t) (room : at + n + m ≤ length w) where

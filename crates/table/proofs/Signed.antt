@@ -1,4 +1,4 @@
--- Signed numbers as differences of two whole numbers: their size, sums, products and order.
+-- Signed numbers as differences of two whole numbers: their size, sums, products and order, and what 64 bits hold of them.
 use Prim.Native.Nat.{ℕ, zero, suc, _+_, _-_, _*_, _<_, _≤_}
 use mathlib.Core.Path.{_≡_, refl, sym, ap, _∙_}
 use native.Mathlib.Omega.{arith}
@@ -7,6 +7,9 @@ use borrow.Author.Tests.{lt-ltb, le-ltb}
 use lib.Dec.{ltb, ltb→lt, nltb→le}
 use lib.IntN.{ℤ, pos, negsuc, negℤ, subℕ, natAbs, _+ℤ_, _-ℤ_, _*ℤ_, +ℤ-assoc, +ℤ-comm, negℤ-+ℤ}
 use lib.Signed.{mag, ltZ}
+use mir.Syntax.{w64}
+use mir.Val.{SFits, toZ}
+use mir.ValLaws.{toZ-pos}
 use Rattle.table.proofs.Test.{by-test}
 
 -- A difference by its two signs.
@@ -21,9 +24,17 @@ pos-pos a (suc b) = refl
 pub size-of : (a b : ℕ) → natAbs (subℕ a b) ≡ a - b + (b - a)
 size-of a b = by-sign (λ z. natAbs z ≡ a - b + (b - a)) a b (λ l. omega arith) (λ l. omega arith)
 
-pub mag-le : (z : ℤ) → mag z ≤ natAbs z
+mag-le : (z : ℤ) → mag z ≤ natAbs z
 mag-le (pos n) = omega arith
 mag-le (negsuc n) = omega arith
+
+-- In 64 bits.
+
+pub size-fits : (z : ℤ) → natAbs z ≤ 9_000_000_000_000_000_000 → SFits w64 z
+size-fits z h = record { sfits = omega (arith, mag-le z) }
+
+pub count-back : (n : ℕ) → n ≤ 1_000_000_000_000_000_000 → toZ w64 n ≡ pos n
+count-back n h = toZ-pos w64 n (omega arith)
 
 -- More on either side.
 

@@ -51,8 +51,8 @@ def prices(word: str) -> Price:
     """Prices as the command line has them, u:v."""
     found = re.fullmatch('([0-9]{1,19}):([0-9]{1,19})', word)  # as many digits as a ratio has that `compare --shares` finds
     if not found:
-        raise argparse.ArgumentTypeError(f'{word!r} is not U:V, two whole numbers such as 50:1: what a missed default costs, '
-                                         'and what a survivor turned away costs')
+        raise argparse.ArgumentTypeError(f'{word!r} is not U:V, two whole numbers such as 50:1, of at most 19 digits: what a missed default '
+                                         'costs, and what a survivor turned away costs; with --shares, all defaults of a book and all survivors')
     return Price(int(found[1]), int(found[2]))
 
 

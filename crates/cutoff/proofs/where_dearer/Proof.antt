@@ -6,7 +6,7 @@ use denote.Ref.{now}
 use Rattle.cutoff.specs.Sweep.{scaleIn, countsIn}
 use Rattle.cutoff.proofs.Held.{gradeBefore}
 use Rattle.cutoff.proofs.Sweep.{Turn, turn, turn-block, turn-counted, turn-counts, Swept, Scales, scales, none-swept}
-use Rattle.cutoff.proofs.Sweep.{is-lead, fewer-at, small₂, few-at, small-costs, small-passed, found, passes}
+use Rattle.cutoff.proofs.Sweep.{is-lead, fewer-at, small₂, few-at, costs-fitting, passed-fitting, found, passes}
 use Rattle.cutoff.proofs.where_dearer.Statement.{statement}
 use Rattle.cutoff.proofs.where_dearer.Tie as tie
 
@@ -61,7 +61,7 @@ shows-dearer-requires : tie.Need-shows-dearer-requires Inv-loop μ-loop
 shows-dearer-requires c κs =
     let n = c .before in
     let l = top n in
-    let small = small-costs (known l) (l .loop .inv) (some n) (here n) (c .turning-away .ensures) in
+    let small = costs-fitting (known l) (l .loop .inv) (some n) (here n) (c .turning-away .ensures) in
     (few-at (known l) (l .loop .inv) (some n) (here n), small)
 
 returns : tie.Need-returns Inv-loop μ-loop
@@ -77,7 +77,7 @@ passed-requires c κs =
     let a = c .before .before in
     let n = a .before in
     let l = top n in
-    let small = small-passed (known l) (l .loop .inv) (some n) (here n) (a .turning-away .ensures) in
+    let small = passed-fitting (known l) (l .loop .inv) (some n) (here n) (a .turning-away .ensures) in
     (few-at (known l) (l .loop .inv) (some n) (here n), small)
 
 loop-again : tie.Need-loop-again Inv-loop μ-loop

@@ -6,6 +6,7 @@ use denote.Ref.{now}
 use Rattle.table.specs.declared.Place.{Place}
 use Rattle.table.specs.Place.{tableOf}
 use Rattle.table.specs.Words.{wordsOf}
+use Rattle.table.proofs.Signed.{count-back}
 use Rattle.measures.specs.Brier.{brierOf}
 use Rattle.measures.proofs.Sizes.{FewBrier, few-brier}
 use Rattle.calls.specs.Answers.{answer, brierSays}
@@ -18,7 +19,6 @@ use Rattle.desk_c.specs.Image.{deskIn, tableOn}
 use Rattle.desk_c.specs.Numbers.{fractionNumbers}
 use Rattle.desk_c.proofs.Images.{words-of}
 use Rattle.desk_c.proofs.Answered.{accepted-is, kept}
-use Rattle.desk_c.proofs.Signed.{signed}
 use Rattle.desk_c.proofs.desk_brier.Statement.{statement}
 use Rattle.desk_c.proofs.desk_brier.Tie as tie
 
@@ -56,7 +56,7 @@ returns-2 c =
     let k = c .before .before .before .before in
     let f = few k in
     let e = accepted-is _ _ (ap brierSays (sym (k .scored .given .1)) ∙ says (answer-of k)) in
-    rw (signed _ (f .numerator), signed _ (f .denominator)) (e .0, ap fractionNumbers (e .1))
+    rw (count-back _ (f .numerator), count-back _ (f .denominator)) (e .0, ap fractionNumbers (e .1))
 
 returns-3 : tie.Need-returns-3
 returns-3 c = kept _ _ _ _ _ (ap brierSays (sym (c .before .scored2 .given .1)) ∙ says (c .before .before .before))

@@ -18,12 +18,11 @@ use Rattle.table.specs.Table.{Table, Sound, survivors, defaultsIn, survivorsIn,
 use Rattle.table.specs.Place.{gradeAt, tableOf}
 use Rattle.table.specs.Words.{placeIn}
 use Rattle.table.proofs.Arithmetic.{counts-le}
-use Rattle.table.proofs.Suffix.{suffix, suffix-end, length-grades, small, sound-small}
+use Rattle.table.proofs.Suffix.{suffix, suffix-end, length-grades, small, sound-small, few-counts}
 use Rattle.table.proofs.Words.{Turn, turn}
 use Rattle.cutoff.specs.Best.{best}
 use Rattle.measures.specs.Measures.{height, farther}
 use Rattle.measures.specs.Private.{farthestOf}
-use Rattle.measures.proofs.Pairs.{few-counts}
 use Rattle.measures.proofs.Cutoffs.{turned-none, turned-suffix}
 use Rattle.measures.proofs.Signed.{difference-fits}
 use Rattle.measures.proofs.farthest.Statement.{statement}

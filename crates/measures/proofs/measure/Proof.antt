@@ -14,13 +14,13 @@ use Rattle.table.specs.Table.{Table, defaultsIn, survivorsIn, obligorsIn}
 use Rattle.table.specs.Words.{tableIn}
 use Rattle.table.specs.Counts.{capped}
 use Rattle.table.proofs.Arithmetic.{counts-le}
-use Rattle.table.proofs.Suffix.{Small, sound-small}
+use Rattle.table.proofs.Suffix.{Small, sound-small, few-counts}
 use Rattle.measures.specs.declared.PairCounts.{PairCounts}
 use Rattle.measures.specs.declared.FarthestCutoff.{FarthestCutoff}
 use Rattle.measures.specs.Pairs.{concordant, discordant, tied}
 use Rattle.measures.specs.Measures.{pairs, measuresOf}
 use Rattle.measures.specs.Private.{pairCountsOf, farthestOf}
-use Rattle.measures.proofs.Pairs.{every-pair, few-counts, few-pairs}
+use Rattle.measures.proofs.Pairs.{every-pair, few-pairs}
 use Rattle.measures.proofs.Signed.{difference-fits}
 use Rattle.measures.proofs.measure.Statement.{statement}
 use Rattle.measures.proofs.measure.Tie as tie

@@ -74,7 +74,9 @@ few c =
     (omega (arith, c .before .before .if1 .left, s .answered .obligors), omega (arith, ltb-false 100_000 (b k .obligors .0) (c .if2 .left), t .answered .obligors))
 
 shareable : {w : List ℕ} {n : Totals} → Taken w n → obligorsIn (tableIn w) ≤ 100_000 → Shareable (tableIn w)
-shareable t few = record { sound = t .answered .ready .holds .sound; defaulted = t .defaulted; survived = t .survived; few = few }
+shareable t few =
+    let sound = t .answered .ready .holds .sound in
+    record { sound = sound; mixed = record { counted = sound .counted; defaulted = t .defaulted; survived = t .survived }; few = few }
 
 judge-requires : tie.Need-judge-requires
 judge-requires c κs =

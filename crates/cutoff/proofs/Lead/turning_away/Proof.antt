@@ -6,7 +6,7 @@ use denote.Ref.{now}
 use Rattle.cutoff.specs.Sweep.{scaleIn, countsIn, Leads}
 use Rattle.cutoff.proofs.Odds.{rising-odds}
 use Rattle.cutoff.proofs.Held.{gradeBefore}
-use Rattle.cutoff.proofs.Leads.{few-next, ahead-small}
+use Rattle.cutoff.proofs.Leads.{few-next, ahead-fits}
 use Rattle.cutoff.proofs.Sweep.{Turn, turn, turn-counted, turn-counts, few-in}
 use Rattle.cutoff.proofs.Sweep.{Turning, turning-starts, turning-ended, turning-small, turning-stops, turning-on}
 use Rattle.cutoff.proofs.Lead.turning_away.Statement.{statement}
@@ -73,7 +73,7 @@ with-requires c κs =
     let i = s .pre .0 .1 .1 in
     let few = few-in (s .args .weights) (s .pre .0 .0) (s .pre .0 .1 .0) in
     let here = at (top n) .here in
-    (at (top n) .words .high, rw (next n) (few-next (s .args .weights) here few, ahead-small (leads l) here few (i .few-caught) (i .few-lost)))
+    (at (top n) .words .high, rw (next n) (few-next (s .args .weights) here few, ahead-fits (leads l) here few (i .few-caught) (i .few-lost)))
 
 loop-less : tie.Need-loop-less Inv-loop μ-loop
 loop-less c = let n = c .before .before .before in rw (c .with .ensures) (omega (arith, at (top n) .words .high))
