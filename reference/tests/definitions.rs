@@ -1,56 +1,31 @@
 //! The definitions once more, by still plainer means, on small random tables.
 
-use reference::cutoff::{cheapest_cost, cutoffs, verdict, Price, Verdict};
+use reference::cutoff::{cheapest_cost, cutoffs, verdict, Verdict};
 use reference::measures::{measures, pairs};
 use reference::natural::Natural;
 use reference::pooling::{blocks, pooled_scale, Rate};
 use reference::random::Random;
 use reference::spread::{lawful, spread};
 use reference::table::Table;
+use small::{assert_all_prices_agree, small_table, Comparison};
 use std::cmp::Ordering;
 
-/// A table of few obligors, some of its grades empty; D and S are at most 8 each and at least 1.
-fn small_table(random: &mut Random, defaults: u64, survivors: u64) -> Table {
-    let count = random.between(1, 5) as usize;
-    let mut rows = vec![(0, 0); count];
-    for person in 0..defaults + survivors {
-        let row = &mut rows[random.index(count)];
-        row.0 += 1;
-        row.1 += u64::from(person < defaults);
-    }
-    Table::of_rows(&rows)
-}
+mod small;
 
+/// D and S are at most 8 each and at least 1.
 #[test]
 fn verdicts_agree_with_trying_all_small_prices() {
-    let mut seen = [0; 4];
-    for seed in 0..4_000 {
-        let mut random = Random::of_seed(seed);
+    let pair = |random: &mut Random| {
         let (defaults, survivors) = (random.between(1, 8), random.between(1, 8));
-        let first = small_table(&mut random, defaults, survivors);
-        let second = small_table(&mut random, defaults, survivors);
-        let (mut first_dearer, mut second_dearer) = (false, false);
-        for u in 0..=20 {
-            for v in 0..=20 {
-                let price = Price {
-                    missed_default: u,
-                    lost_survivor: v,
-                };
-                let costs = cheapest_cost(&first, &price).cmp(&cheapest_cost(&second, &price));
-                first_dearer |= costs == Ordering::Greater;
-                second_dearer |= costs == Ordering::Less;
-            }
-        }
-        let found = match verdict(&first, &second) {
-            Verdict::Equal => (false, false),
-            Verdict::First(_) => (false, true),
-            Verdict::Second(_) => (true, false),
-            Verdict::Crossing(..) => (true, true),
-        };
-        assert_eq!(found, (first_dearer, second_dearer), "{first:?} {second:?}");
-        seen[usize::from(found.0) + 2 * usize::from(found.1)] += 1;
-    }
-    assert!(seen.iter().all(|&times| times > 50), "{seen:?}");
+        [(); 2].map(|()| small_table(random, defaults, survivors))
+    };
+    let comparison = Comparison {
+        costs: |first, second, price| {
+            cheapest_cost(first, price).cmp(&cheapest_cost(second, price))
+        },
+        verdict,
+    };
+    assert_all_prices_agree(pair, 20, comparison);
 }
 
 /// Adjacent violators, joined until none is left. Empty grades are passed over.

@@ -14,9 +14,11 @@ use reference::random::Random;
 use reference::script::{decode, Call};
 use reference::shares::{cheapest_cost_on_shares, verdict_on_shares, Fraction};
 use reference::table::Table;
+use small::{assert_all_prices_agree, small_table, Comparison};
 use std::cmp::Ordering;
 
 mod desks;
+mod small;
 
 /// D 5, S 15. Cutoff 1 catches 4 of 5 defaults and turns away 6 of 15 survivors.
 const A: [(u64, u64); 2] = [(10, 1), (10, 4)];
@@ -154,13 +156,14 @@ fn scaled_cost(table: &Table, other: &Table, price: &Price) -> u128 {
     cutoffs(table).iter().map(cost).min().expect("cutoff 0")
 }
 
+fn scaled_costs(first: &Table, second: &Table, price: &Price) -> Ordering {
+    scaled_cost(first, second, price).cmp(&scaled_cost(second, first, price))
+}
+
 /// The costs at each pair carried differ as said, and its prices are up to 2,500,000,000.
 fn assert_pairs_show(first: &Table, second: &Table) {
     let verdict = verdict_on_shares(first, second);
-    let costs = |price: &Price| {
-        let of_first = scaled_cost(first, second, price);
-        of_first.cmp(&scaled_cost(second, first, price))
-    };
+    let costs = |price: &Price| scaled_costs(first, second, price);
     let prices = verdict_prices(&verdict);
     let expected = match verdict {
         Verdict::Equal => vec![],
@@ -187,43 +190,20 @@ fn pairs_carried_show_what_they_have_to() {
     }
 }
 
-/// A table of few obligors, some of its grades empty.
-fn small_table(random: &mut Random) -> Table {
-    let (defaults, survivors) = (random.between(1, 4), random.between(1, 4));
-    let count = random.between(1, 4) as usize;
-    let mut rows = vec![(0, 0); count];
-    for person in 0..defaults + survivors {
-        let row = &mut rows[random.index(count)];
-        row.0 += 1;
-        row.1 += u64::from(person < defaults);
-    }
-    Table::of_rows(&rows)
-}
-
 /// D and S are at most 4, hence the break-even prices at most 16.
 #[test]
 fn verdicts_agree_with_trying_all_small_prices() {
-    let mut seen = [0; 4];
-    for seed in 0..4_000 {
-        let random = &mut Random::of_seed(seed);
-        let [first, second] = [small_table(random), small_table(random)];
-        let (mut first_dearer, mut second_dearer) = (false, false);
-        for (u, v) in (0..=16).flat_map(|u| (0..=16).map(move |v| (u, v))) {
-            let of_first = scaled_cost(&first, &second, &price(u, v));
-            let of_second = scaled_cost(&second, &first, &price(u, v));
-            first_dearer |= of_first > of_second;
-            second_dearer |= of_first < of_second;
-        }
-        let found = match verdict_on_shares(&first, &second) {
-            Verdict::Equal => (false, false),
-            Verdict::First(_) => (false, true),
-            Verdict::Second(_) => (true, false),
-            Verdict::Crossing(..) => (true, true),
-        };
-        assert_eq!(found, (first_dearer, second_dearer), "{first:?} {second:?}");
-        seen[usize::from(found.0) + 2 * usize::from(found.1)] += 1;
-    }
-    assert!(seen.iter().all(|&times| times > 50), "{seen:?}");
+    let pair = |random: &mut Random| {
+        [(); 2].map(|()| {
+            let (defaults, survivors) = (random.between(1, 4), random.between(1, 4));
+            small_table(random, defaults, survivors)
+        })
+    };
+    let comparison = Comparison {
+        costs: scaled_costs,
+        verdict: verdict_on_shares,
+    };
+    assert_all_prices_agree(pair, 16, comparison);
 }
 
 /// With D' times the one's defaults and D times the other's, and S' and S times the survivors, both
