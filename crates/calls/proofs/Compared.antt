@@ -33,14 +33,14 @@ taken-by (suc m) y e = let z : _≡_ {A = ℕ} 0 1 = cc in absurd (omega arith)
 -- The answer of one place.
 
 -- The totals are those of its table.
-pub record Answered (w : List ℕ) (t : Totals) : Type 0 where
+pub record HasTotals (w : List ℕ) (t : Totals) : Type 0 where
   pub ready : Ready w
   pub totals : t ≡ totalsOf (tableIn w)
   pub defaults : t .defaults ≡ defaultsIn (tableIn w)
   pub survivors : t .survivors .0 ≡ survivorsIn (tableIn w)
   pub obligors : t .obligors .0 ≡ obligorsIn (tableIn w)
 
-answers : {w : List ℕ} {t : Totals} → Ready w → t ≡ totalsOf (tableIn w) → Answered w t
+answers : {w : List ℕ} {t : Totals} → Ready w → t ≡ totalsOf (tableIn w) → HasTotals w t
 unfolding totalsOf
 answers r e =
     record {
@@ -58,7 +58,7 @@ module _ (w : List ℕ) (r : TotalsAnswer) (e : totalsSays r ≡ answer (emptyFa
   pub totals-refused : {n : ℕ} → r ≡ one.Refused n → (n ≡ emptyFault (placeIn w)) × (n ≡ 0 → ⊥)
   totals-refused h = refused-by _ (totalsOf (tableIn w)) (rw h at e)
 
-  pub totals-taken : {t : Totals} → IsPlace w → r ≡ one.Totals t → Answered w t
+  pub totals-taken : {t : Totals} → IsPlace w → r ≡ one.Totals t → HasTotals w t
   totals-taken i h = let k = taken-by _ (totalsOf (tableIn w)) (rw h at e) in answers (is-ready w i (k .0)) (k .1)
 
 -- A refusal that is handed back.
@@ -88,7 +88,7 @@ third-longer (suc a) b l rest k = refl
 
 -- The totals of a table with a default and a survivor.
 pub record Taken (w : List ℕ) (t : Totals) : Type 0 where
-  pub answered : Answered w t
+  pub answered : HasTotals w t
   pub defaulted : 1 ≤ defaultsIn (tableIn w)
   pub survived : 1 ≤ survivorsIn (tableIn w)
 

@@ -14,7 +14,7 @@ use Rattle.book.proofs.Checks.{Finds, found, none, pass, over, stop, go}
 use Rattle.calls.specs.Answers.{Answer, accepted, refused, answer, pairSays}
 use Rattle.calls.specs.Private.{mixedChecks, mixedFault, pairTotals}
 use Rattle.calls.proofs.Answered.{refuses, accepts}
-use Rattle.calls.proofs.Compared.{Answered, totals-refused, totals-taken, hands-back}
+use Rattle.calls.proofs.Compared.{HasTotals, totals-refused, totals-taken, hands-back}
 use Rattle.calls.proofs.pair.both_totals.Statement.{statement}
 use Rattle.calls.proofs.pair.both_totals.Tie as tie
 
@@ -26,10 +26,10 @@ start c = c .before .before .before
 abbrev one : tie.After-known-told2 → tie.After-known-told
 one c = c .before .before .before .before
 
-at₁ : (c : tie.After-known-told) → Answered (now (start (c .before .before .before) .args .first)) (c .before .ours .given .0 .0)
+at₁ : (c : tie.After-known-told) → HasTotals (now (start (c .before .before .before) .args .first)) (c .before .ours .given .0 .0)
 at₁ c = let k = c .before .before .before in totals-taken _ _ (k .totals .ensures) (start k .pre .0) (c .before .ours .given .1)
 
-at₂ : (c : tie.After-known-told2) → Answered (now (start (one c .before .before .before) .args .second)) (c .before .theirs .given .0 .0)
+at₂ : (c : tie.After-known-told2) → HasTotals (now (start (one c .before .before .before) .args .second)) (c .before .theirs .given .0 .0)
 at₂ c =
     let k = c .before .before .before in
     totals-taken _ _ (k .totals2 .ensures) (start (one c .before .before .before) .pre .1) (c .before .theirs .given .1)
@@ -55,7 +55,7 @@ returns-2 c =
 
 -- The checks of both.
 
-module _ {v w : List ℕ} {a b : Totals} (s : Answered v a) (t : Answered w b) where
+module _ {v w : List ℕ} {a b : Totals} (s : HasTotals v a) (t : HasTotals w b) where
   pair-refuses : (n : ℕ) → Finds (mixedChecks (tableIn v) (tableIn w)) n → (n ≡ 0 → ⊥)
       → refused n ≡ answer (mixedFault (placeIn v) (placeIn w)) (pairTotals (placeIn v) (placeIn w))
   pair-refuses n f z = refuses n (pairTotals (placeIn v) (placeIn w)) (go (s .ready .loaded) (go (t .ready .loaded) (found f))) z
