@@ -17,6 +17,7 @@ use Rattle.book.specs.Encode.{encodeGrade, encodeGrades, encodeTable, si
 use Rattle.book.proofs.Checks.{held, held-first}
 use Rattle.book.proofs.Rows.{length-rows}
 use Rattle.book.proofs.Books.{header}
+use Rattle.book.proofs.Whole.{count-tables}
 
 byte : (b : List ℕ) (i : ℕ) → Every Byte b → byteAt b i < 256
 byte [] i h = omega arith
@@ -103,11 +104,6 @@ here b j at e =
       size = omega (arith, length-rows b (kindAt b at) (gradesAt b at) (at + 4));
     }
 
-count : (b : List ℕ) (j k : ℕ) → length (tablesIn b j k) ≡ k
-unfolding tablesIn
-count b j zero = refl
-count b j (suc k) = ap suc (count b (suc j) k)
-
 ends-again : (b : List ℕ) (k j at : ℕ) → tablesFaultFrom b k j at ≡ 0 → endsAt at (tablesIn b j k) ≡ length b
 unfolding tablesFaultFrom tablesIn endsAt
 ends-again b zero j at e = held (equal at (length b) leftoverFault ∷ []) e .0
@@ -145,7 +141,7 @@ module _ (b : List ℕ) (h : Every Byte b) where
       let f = held-first _ _ e in
       let c = held (headChecks b) (f .0) in
       let ts = tablesIn b 1 (raters b) in
-      let n = count b 1 (raters b) in
+      let n = count-tables b 1 (raters b) in
       let size = ends-again b (raters b) 1 (firstStart b) (f .1) in
       let first : 2 + 2 * (1 + raters b) ≡ firstStart b = omega arith in
       let parts : b ≡ twoBytes (raters b) ++ (twoBytes (length b) ++ (offsets (firstStart b) ts ++ encodeTables ts)) =

@@ -5,6 +5,7 @@ pub mod Columns
 pub mod Stands
 pub mod Faultless
 pub mod Accept
+pub mod Whole
 pub mod Stored
 pub mod Filled
 pub mod Books

@@ -3,6 +3,7 @@
 use Prim.Native.Nat.{ℕ, _+_, _-_, _*_, _≤_, _<_}
 use mathlib.Core.Path.{_≡_}
 use mathlib.Core.Bool.{true}
+use mathlib.Core.Logic.{_↔_}
 use mathlib.Core.List.{List, []}
 use lib.ListN.{length, getD, take}
 use Rattle.table.specs.declared.Place.{Place}
@@ -14,7 +15,7 @@ use Rattle.book.specs.Layout.{raters, startOf, gradesAt, kindAt, headChe
 use Rattle.book.specs.WrongCut.{WrongCut}
 use Rattle.book.specs.Rows.{tableOfRater, tablesIn, rowsFault}
 use Rattle.book.specs.Fall.{FallsAfter}
-use Rattle.book.specs.Reading.{readFault}
+use Rattle.book.specs.Reading.{readFault, bookFault}
 use Rattle.book.specs.Encode.{encode}
 use Rattle.book.specs.Writing.{tablesOf, writeAnswer, bufferAfter}
 use Rattle.book.specs.declared.Written.the-variants.{Length}
@@ -80,6 +81,11 @@ ReadBookWritesBack =
     → ((j : ℕ) → 1 ≤ j → j ≤ raters b → kindAt b (startOf b j) ≡ 0)
     → encode (tablesIn b 1 (raters b)) ≡ b
 
+-- R-7: a book as a whole has no fault exactly if it is laid out and each of its raters can be read: the checks are load's.
+abbrev pub WholeBooksAreRead : Type 0
+WholeBooksAreRead =
+    (b : List ℕ) → (bookFault b ≡ 0) ↔ ((layoutFault b ≡ 0) × ((j : ℕ) → 1 ≤ j → j ≤ raters b → readFault b j ≡ 0))
+
 -- A book that is cut wrong is refused with the number of the cut, whichever of its raters is wanted.
 abbrev pub WrongCutsAreTold : Type 0
 WrongCutsAreTold = (b : List ℕ) (j n : ℕ) → fault (headChecks b) ≡ 0 → 1 ≤ j → j ≤ raters b → WrongCut b n → readFault b j ≡ n
@@ -99,5 +105,6 @@ pub record Claims : Type 0 where
   pub first-column-is-of-its-kind : FirstColumnIsOfItsKind
   pub written-book-reads-back : WrittenBookReadsBack
   pub read-book-writes-back : ReadBookWritesBack
+  pub whole-books-are-read : WholeBooksAreRead
   pub wrong-cuts-are-told : WrongCutsAreTold
   pub wrong-cuts-are-meant : WrongCutsAreMeant

@@ -3,7 +3,7 @@ ghost use Prim.Native.Nat.{_+_, _*_, _≤_};
 ghost use mathlib.Core.Path.{_≡_};
 ghost use lib.ListN.{length};
 ghost use Rattle.book.specs.Checks.{fault};
-ghost use Rattle.book.specs.Layout.{startOf, headChecks, tableChecks, tablesFault};
+ghost use Rattle.book.specs.Layout.{raters, startOf, headChecks, tableChecks, tablesFault};
 use crate::bytes::byte_at;
 use crate::bytes::two_at;
 use refusals::BOOK_LENGTH;
@@ -27,6 +27,14 @@ pub const ROW: usize = 12;
 // The most raters of a book.
 const RATERS: usize = 16;
 
+// The number of raters.
+pub fn raters_of(b: &[u8]) -> usize
+    requires { ⌜ 2 ≤ length (now b) ⌝ }
+    ensures { λ r. ⌜ (r ≡ raters (now (b .entry))) × (r < 65536) ⌝ }
+{
+    two_at(b, 0)
+}
+
 // Where the table of rater j starts.
 pub fn start_of(b: &[u8], j: usize) -> usize
     requires { ⌜ (1 ≤ j) × (4 + 2 * j ≤ length (now b)) ⌝ }
@@ -45,7 +53,7 @@ pub fn head_fault(b: &[u8]) -> u32
     if two_at(b, 2) != b.len() {
         return BOOK_LENGTH;
     }
-    let raters = two_at(b, 0);
+    let raters = raters_of(b);
     if raters < 1 {
         return RATER_COUNT;
     }
@@ -94,7 +102,7 @@ pub fn tables_fault(b: &[u8]) -> u32
     requires { ⌜ fault (headChecks (now b)) ≡ 0 ⌝ }
     ensures { λ r. ⌜ r ≡ tablesFault (now (b .entry)) ⌝ }
 {
-    let raters = two_at(b, 0);
+    let raters = raters_of(b);
     let mut at = HEAD + OFFSET * raters;
     let mut j: usize = 0;
     while j < raters {

@@ -7,6 +7,8 @@ mod reader;
 mod writer;
 
 pub use layout::head_fault;
+pub use layout::raters_of;
+pub use layout::start_of;
 pub use layout::tables_fault;
 pub use reader::read_fault;
 pub use reader::rows_fault;

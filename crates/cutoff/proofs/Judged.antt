@@ -13,7 +13,7 @@ use Rattle.pooling.specs.declared.Block.{Block}
 use Rattle.pooling.specs.Pool.{asGrade, pooledScale}
 use Rattle.pooling.specs.Private.{spanning, blockWords, blocksIn}
 use Rattle.pooling.proofs.Joined.{pooled-totals}
-use Rattle.pooling.proofs.Scale.{scale-counted}
+use Rattle.pooling.proofs.Scale.{scale-occupied, scale-counted}
 use Rattle.pooling.proofs.Spanning.{spanning-scale, spanning-rising}
 use Rattle.pooling.proofs.Words.{blocks-back}
 use Rattle.cutoff.specs.Cutoff.{IsCheapest, NoDearer}
@@ -60,6 +60,7 @@ module _ (t : Table) (w : List ℕ) (e : w ≡ blockWords (spanning t)) where
   sweepable sound = record {
     exact = rw back e;
     rising = rw back (spanning-rising t);
+    occupied = rw held-scale (scale-occupied t);
     counted = rw held-scale (scale-counted t (sound .counted));
     total = rw held-scale (omega (arith, pooled-totals t (sound .counted), sound .total));
   }
@@ -97,11 +98,11 @@ pooled-matched w₁ w₂ t₁ t₂ counted₁ counted₂ m =
 
 -- What a search says: whether the first never costs more, and otherwise prices at which it does.
 
-abbrev calls : Dearer → Bool
+abbrev pub calls : Dearer → Bool
 calls Nowhere = true
 calls (At p) = false
 
-record Told (never : Bool) (Costs-more : Price → Type 0) (a : Dearer) : Type 0 where
+pub record Told (never : Bool) (Costs-more : Price → Type 0) (a : Dearer) : Type 0 where
   pub called : calls a ≡ never
   pub pair : (p : Price) → a ≡ At p → Costs-more p
 
@@ -171,7 +172,7 @@ module _ (w₁ w₂ : Weights) (t₁ t₂ : Table) (counted₁ : Every Counted t
         let good = never-dearer (inWeights w₁ t₁) (inWeights w₂ t₂) (weighted-counted (w₁ .defaults) (w₁ .survivors) t₁) same .0 h in
         omega (arith, good u v _ _ one two, f .more _ _ one two)
 
-    told : 1 ≤ w₂ .defaults → 1 ≤ w₂ .survivors → (a : Found) → Finds w₁ w₂ (pooledScale t₁) (pooledScale t₂) a
+    pub told : 1 ≤ w₂ .defaults → 1 ≤ w₂ .survivors → (a : Found) → Finds w₁ w₂ (pooledScale t₁) (pooledScale t₂) a
         → Told (neverDearer (inWeights w₁ t₁) (inWeights w₂ t₂)) (DearerInWeights w₁ w₂ t₁ t₂) (dearerAt w₂ a)
     told pos-d₂ pos-s₂ Nothing f = told-nowhere _ _ (never f)
     told pos-d₂ pos-s₂ (One b) f = let d = dearer-pooled pos-d₂ pos-s₂ b f in told-at _ _ _ (somewhere _ d) d

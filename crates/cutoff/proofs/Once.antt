@@ -1,18 +1,24 @@
--- The verdict on two tables whose defaults and survivors count once is the verdict on the tables.
-use Prim.Native.Nat.{_≤_}
+-- Tables and scales whose defaults and survivors count once: the verdict in these weights is the verdict on the tables, and what a search finds
+-- in two scales says whether the first ever costs more.
+use Prim.Native.Nat.{ℕ, _≤_}
 use mathlib.Core.Path.{_≡_}
+use mathlib.Core.List.{List}
 use native.Mathlib.Nat.{mul-one}
 use native.Mathlib.Omega.{arith}
 use Rattle.table.specs.Table.{Table, Sound, defaultsIn, survivorsIn}
 use Rattle.table.proofs.Arithmetic.{counts-le}
 use Rattle.table.proofs.Suffix.{sound-small, few-counts}
-use Rattle.cutoff.specs.Verdict.{DearerAt, IsVerdict}
-use Rattle.cutoff.specs.Sweep.{inWeights, Matched}
+use Rattle.table.proofs.Sums.{obligors-split}
+use Rattle.pooling.specs.Private.{blocksIn}
+use Rattle.pooling.proofs.Again.{pooled-again}
+use Rattle.cutoff.specs.Verdict.{DearerAt, neverDearer, IsVerdict}
+use Rattle.cutoff.specs.Sweep.{scaleIn, Sweepable, inWeights, Matched, Finds, dearerAt}
+use Rattle.cutoff.specs.declared.Found.{Found}
 use Rattle.cutoff.specs.declared.Price.{Price}
 use Rattle.cutoff.specs.declared.Verdict.{Verdict}
 use Rattle.cutoff.specs.declared.Weights.{Weights}
 use Rattle.cutoff.proofs.Weighted.{weighted-once}
-use Rattle.cutoff.proofs.Judged.{DearerInWeights, IsVerdictInWeights, Weighable}
+use Rattle.cutoff.proofs.Judged.{DearerInWeights, IsVerdictInWeights, calls, told, Weighable}
 
 abbrev pub once : Weights
 once = record { defaults = 1; survivors = 1 }
@@ -55,3 +61,32 @@ verdict-once t₁ t₂ sound₁ sound₂ v is =
       first-dearer = λ p h. dearer-once t₁ t₂ sound₁ sound₂ p (is .first-dearer p h);
       second-dearer = λ p h. dearer-once t₂ t₁ sound₂ sound₁ p (is .second-dearer p h);
     }
+
+-- Two scales that are pooled already.
+module _ (w₁ w₂ : List ℕ) (k₁ : Sweepable w₁) (k₂ : Sweepable w₂) (same-defaults : defaultsIn (scaleIn w₁) ≡ defaultsIn (scaleIn w₂))
+    (same-survivors : survivorsIn (scaleIn w₁) ≡ survivorsIn (scaleIn w₂)) where
+  abbrev t₁ : Table
+  t₁ = scaleIn w₁
+
+  abbrev t₂ : Table
+  t₂ = scaleIn w₂
+
+  pub scales-matched : Matched (inWeights once (scaleIn w₁)) (inWeights once (scaleIn w₂))
+  scales-matched =
+      let split = obligors-split t₁ (k₁ .counted) in
+      let d : defaultsIn t₁ ≤ 1_000_000 = omega (arith, split, k₁ .total) in
+      let s : survivorsIn t₁ ≤ 1_000_000 = omega (arith, split, k₁ .total) in
+      rw (weighted-once t₁ (k₁ .counted), weighted-once t₂ (k₂ .counted))
+      (record { same-defaults = same-defaults; same-survivors = same-survivors; few-pairs = omega (arith, counts-le d s) })
+
+  -- What a search finds in them says whether the first ever costs more.
+  pub never-once : (a : Found) → Finds once once (scaleIn w₁) (scaleIn w₂) a → calls (dearerAt once a) ≡ neverDearer (scaleIn w₁) (scaleIn w₂)
+  never-once a f =
+      let p₁ = pooled-again (blocksIn w₁) (k₁ .rising) (k₁ .occupied) in
+      let p₂ = pooled-again (blocksIn w₂) (k₂ .rising) (k₂ .occupied) in
+      let e₁ = weighted-once t₁ (k₁ .counted) in
+      let e₂ = weighted-once t₂ (k₂ .counted) in
+      let h =
+      told once once t₁ t₂ (k₁ .counted) (k₂ .counted) (omega arith) (omega arith) (scales-matched .same-survivors) (omega arith) (omega arith) a
+      (rw (p₁, p₂) f) in
+      rw (e₁, e₂) at (h .called)

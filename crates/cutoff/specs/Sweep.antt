@@ -7,7 +7,7 @@ use mathlib.Core.List.{List, [], _∷_, map}
 use lib.Dec.{leb}
 use lib.IntN.{ℤ, pos, subℕ, natAbs, _+ℤ_, _-ℤ_}
 use lib.ListN.{length, drop}
-use Rattle.table.specs.Table.{Table, Grade, Every, Counted, survivors, defaultsIn, survivorsIn, obligorsIn}
+use Rattle.table.specs.Table.{Table, Grade, Every, Occupied, Counted, survivors, defaultsIn, survivorsIn, obligorsIn}
 use Rattle.table.specs.Counts.{largest}
 use Rattle.pooling.specs.declared.Block.{Block}
 use Rattle.pooling.specs.Pool.{Rising, asGrade}
@@ -35,6 +35,7 @@ scaleIn w = map asGrade (blocksIn w)
 pub record Sweepable (w : List ℕ) : Type 0 where
   pub exact : w ≡ blockWords (blocksIn w)
   pub rising : Rising (blocksIn w)
+  pub occupied : Every Occupied (scaleIn w)
   pub counted : Every Counted (scaleIn w)
   pub total : obligorsIn (scaleIn w) ≤ 1_000_000
 

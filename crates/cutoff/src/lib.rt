@@ -10,7 +10,7 @@ ghost use Rattle.table.specs.Words.{tableIn, HoldsTable};
 ghost use Rattle.table.specs.Counts.{largest};
 ghost use Rattle.pooling.specs.Pool.{asGrade};
 ghost use Rattle.cutoff.specs.Cutoff.{cheapestOf};
-ghost use Rattle.cutoff.specs.Verdict.{IsVerdict};
+ghost use Rattle.cutoff.specs.Verdict.{neverDearer, IsVerdict};
 ghost use Rattle.cutoff.specs.Sweep.{scaleIn, Sweepable, inWeights, Light, Matched, mostPairs, countsIn, Few, FitsSigned};
 ghost use Rattle.cutoff.specs.Sweep.{ahead, behind, IsLead, acceptedIn, SmallIn, Turned};
 ghost use Rattle.cutoff.specs.Sweep.{Finds, priceIn, SmallPrice, dearerAt, verdictOf};
@@ -298,6 +298,20 @@ pub fn judge(first: &[u32], second: &[u32]) -> Verdict
     let first_dearer = first_found.at_break_even(ONCE);
     let second_dearer = second_found.at_break_even(ONCE);
     Verdict::of(first_dearer, second_dearer)
+}
+
+// Whether a scale costs no more than another at any prices: the blocks of two tables of equally many defaults and equally many survivors.
+pub fn never_dearer(first: &[u32], second: &[u32]) -> bool
+    requires scales { ⌜ Sweepable (now first) × Sweepable (now second) ⌝ }
+    requires defaults { ⌜ defaultsIn (scaleIn (now first)) ≡ defaultsIn (scaleIn (now second)) ⌝ }
+    requires survivors { ⌜ survivorsIn (scaleIn (now first)) ≡ survivorsIn (scaleIn (now second)) ⌝ }
+    ensures { λ r. ⌜ r ≡ neverDearer (scaleIn (now (first .entry))) (scaleIn (now (second .entry))) ⌝ }
+{
+    let found = where_dearer(first, ONCE, second, ONCE);
+    match found {
+        Found::One(_block) => false,
+        Found::Nothing => true,
+    }
 }
 
 // What is claimed of cutoffs: the function does nothing, its contract is all claims of this crate.

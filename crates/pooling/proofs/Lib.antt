@@ -1,6 +1,7 @@
 pub mod Front
 pub mod Joined
 pub mod Scale
+pub mod Again
 pub mod Spanning
 pub mod Runs
 pub mod Scaled

@@ -93,9 +93,9 @@ module _ (p : Place) (long : Long p) where
 
 -- The words, stored column by column over zeros.
 pub words-put : (p : Place) → Long p → {u v w : List ℕ}
-    → u ≡ paste (replicate 122 0) 0 (p .obligors) 40
-    → v ≡ paste u 40 (p .defaults) 40
-    → w ≡ paste v 80 (p .announced) 40
+    → u ≡ paste (replicate 122 0) 0 (p .obligors) (length (p .obligors))
+    → v ≡ paste u 40 (p .defaults) (length (p .defaults))
+    → w ≡ paste v 80 (p .announced) (length (p .announced))
     → set (set w 120 (p .grades)) 121 (cond (p .loaded) 1 0) ≡ wordsOf p
 words-put p l e f g =
     let zeros : List ℕ = replicate 122 0 in
@@ -106,9 +106,9 @@ words-put p l e f g =
     let k : length (all ++ (p .grades ∷ [])) ≡ 121 = rw (length-append, m) refl in
     let stored : paste zeros 0 all 120 ≡ all ++ (0 ∷ 0 ∷ []) = rw (take-all 120 all (omega arith)) refl in
     rw (
-      g,
-      f,
-      e,
+      rw (l .announced) at g,
+      rw (l .defaults) at f,
+      rw (l .obligors) at e,
       paste-behind zeros (p .obligors) (p .defaults) 0 40 40 40 refl (l .obligors) (omega arith) (omega arith),
       paste-behind zeros two (p .announced) 0 80 40 80 refl n (omega arith) (omega arith),
       stored,

@@ -134,14 +134,14 @@ fn mark(loaded: bool) -> u32
     if loaded { 1 } else { 0 }
 }
 
-// Stores a column from `at` on.
-fn put_column(words: &mut [u32], at: usize, column: &[u32])
-    requires { ⌜ (at + 40 ≤ length (now words)) × (length (now column) ≡ 40) ⌝ }
-    ensures { λ _. ⌜ now (words .exit) ≡ paste (now (words .entry)) at (now (column .entry)) 40 ⌝ }
+// Stores numbers from `at` on.
+pub fn put_numbers(words: &mut [u32], at: usize, numbers: &[u32])
+    requires { ⌜ at + length (now numbers) ≤ length (now words) ⌝ }
+    ensures { λ _. ⌜ now (words .exit) ≡ paste (now (words .entry)) at (now (numbers .entry)) (length (now (numbers .entry))) ⌝ }
 {
     let mut i: usize = 0;
-    while i < GRADES {
-        words[at + i] = column[i];
+    while i < numbers.len() {
+        words[at + i] = numbers[i];
         i += 1;
     }
 }
@@ -167,9 +167,9 @@ impl Place {
         ensures { λ r. ⌜ r ≡ wordsOf self ⌝ }
     {
         let mut words = [0u32; PLACE];
-        put_column(&mut words, 0, &self.obligors);
-        put_column(&mut words, DEFAULTS, &self.defaults);
-        put_column(&mut words, ANNOUNCED, &self.announced);
+        put_numbers(&mut words, 0, &self.obligors);
+        put_numbers(&mut words, DEFAULTS, &self.defaults);
+        put_numbers(&mut words, ANNOUNCED, &self.announced);
         words[GRADE_COUNT] = self.grades as u32;
         words[LOADED] = mark(self.loaded);
         words

@@ -10,7 +10,7 @@ returns c =
     let a = c .before .before .before .before .before .before .before .before .before .before .before .before .before .before .before .before .before .before .before in
     let d = c .before .before .before .before .before .before .before .before in
     rw (c .mark .ensures)
-    (words-put (a .args .t1) (long-place (a .pre)) (d .before .before .before .before .before .before .put-column .ensures) (d .put-column2 .ensures) (c .before .before .put-column3 .ensures))
+    (words-put (a .args .t1) (long-place (a .pre)) (d .before .before .before .before .before .before .put-numbers .ensures) (d .put-numbers2 .ensures) (c .before .before .put-numbers3 .ensures))
 
 pub words-spec : {M : Type 1} → statement M
 words-spec =

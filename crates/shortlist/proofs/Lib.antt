@@ -1,0 +1,9 @@
+pub mod Order
+pub mod Numbers
+pub mod Top
+pub mod Listed
+pub mod Marked
+pub mod Totals
+pub mod Pooled
+pub mod Accepted
+pub mod Books

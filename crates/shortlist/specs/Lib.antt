@@ -1,0 +1,4 @@
+pub mod Shortlist
+pub mod Checks
+pub mod Private
+pub mod Claims

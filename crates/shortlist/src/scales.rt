@@ -1,0 +1,173 @@
+// The pooled scales of all raters of a book, each read and pooled once.
+ghost use Prim.Native.Nat.{_+_, _*_, _≤_, _<_, min, max};
+ghost use mathlib.Core.Path.{_≡_};
+ghost use lib.ListN.{length, getD};
+ghost use Rattle.table.specs.Words.{tableIn, HoldsTable};
+ghost use Rattle.book.specs.Layout.{raters, gradesAt, endOf, layoutFault};
+ghost use Rattle.book.specs.Rows.{tableFrom, tableFault};
+ghost use Rattle.book.specs.Reading.{allTables, tableFaults};
+ghost use Rattle.shortlist.specs.Private.{scaleSize, heldSize, heldOf, blocksHeld, Holds, HoldsAll, totalsFrom, rangeOf, rangesFault, heldTotalsFault};
+use book::raters_of;
+use book::read_table;
+use book::start_of;
+use pooling::BLOCKS;
+use pooling::blocks_of;
+use refusals::NO_DEFAULTS;
+use refusals::NO_SURVIVORS;
+use refusals::UNEQUAL_TOTALS;
+use table::PLACE;
+use table::totals_of;
+
+// The numbers that are held of a rater: the words of its blocks, which end at BLOCKS, where they start, D and S.
+const START: usize = 120;
+
+const DEFAULTS: usize = 121;
+
+const SURVIVORS: usize = 122;
+
+const SCALE: usize = 123;
+
+// The most raters of a book, and the numbers of as many.
+pub const RATERS: usize = 16;
+
+pub const HELD: usize = 1_968;
+
+// A count as an index.
+fn wide(n: u32) -> usize
+    ensures { λ r. ⌜ r ≡ n ⌝ }
+{
+    n as usize
+}
+
+// The numbers of a rater, the first being 0.
+fn scale_of(held: &[u32], rater: usize) -> &[u32]
+    requires { ⌜ (length (now held) ≡ heldSize) × (rater < 16) ⌝ }
+    ensures { λ r. ⌜ now r ≡ heldOf (now (held .entry)) rater ⌝ }
+{
+    let at = SCALE * rater;
+    let end = at + SCALE;
+    &held[at..end]
+}
+
+// The words of the blocks of a rater.
+pub fn blocks_at(held: &[u32], rater: usize) -> &[u32]
+    requires inside { ⌜ (length (now held) ≡ heldSize) × (rater < 16) ⌝ }
+    requires start { ⌜ getD (heldOf (now held) rater) 120 0 ≤ 120 ⌝ }
+    ensures { λ r. ⌜ now r ≡ blocksHeld (heldOf (now (held .entry)) rater) ⌝ }
+{
+    let scale = scale_of(held, rater);
+    let from = wide(scale[START]);
+    &scale[from..BLOCKS]
+}
+
+// Holds the pooled scale of the table in a lent place.
+fn hold(place: &[u32], scale: &mut [u32])
+    requires { ⌜ HoldsTable (now place) × (length (now scale) ≡ scaleSize) ⌝ }
+    ensures { λ _. ⌜ Holds (now (scale .exit)) (tableIn (now (place .entry))) ⌝ }
+{
+    let from = blocks_of(place, &mut scale[..BLOCKS]);
+    let totals = totals_of(place);
+    scale[START] = from as u32;
+    scale[DEFAULTS] = totals.defaults;
+    scale[SURVIVORS] = totals.survivors.0;
+}
+
+// Reads and pools the table that starts at `start`; 0, or the number of its first fault.
+fn read_scale(book: &[u8], start: usize, scale: &mut [u32]) -> u32
+    requires table { ⌜ (endOf (now book) start ≤ length (now book)) × (1 ≤ gradesAt (now book) start) × (gradesAt (now book) start ≤ 40) ⌝ }
+    requires room { ⌜ length (now scale) ≡ scaleSize ⌝ }
+    ensures { λ r. ⌜ r ≡ tableFault (tableFrom (now (book .entry)) start) ⌝ }
+    ensures scale { λ r. ⌜ r ≡ 0 → Holds (now (scale .exit)) (tableFrom (now (book .entry)) start) ⌝ }
+    ensures length { λ _. ⌜ length (now (scale .exit)) ≡ scaleSize ⌝ }
+{
+    let mut place = [0u32; PLACE];
+    let fault = read_table(book, start, &mut place);
+    if fault != 0 {
+        return fault;
+    }
+    hold(&place, scale);
+    0
+}
+
+// Reads and pools the tables of a book that is laid out, in its order; 0, or the number of the first fault.
+pub fn read_scales(book: &[u8], held: &mut [u32]) -> u32
+    requires laid { ⌜ layoutFault (now book) ≡ 0 ⌝ }
+    requires room { ⌜ length (now held) ≡ heldSize ⌝ }
+    ensures { λ r. ⌜ r ≡ tableFaults (allTables (now (book .entry))) ⌝ }
+    ensures scales { λ r. ⌜ r ≡ 0 → HoldsAll (now (book .entry)) (now (held .exit)) ⌝ }
+    ensures length { λ _. ⌜ length (now (held .exit)) ≡ heldSize ⌝ }
+{
+    let raters = raters_of(book);
+    let mut rater: usize = 0;
+    while rater < raters {
+        let at = SCALE * rater;
+        let end = at + SCALE;
+        rater += 1;
+        let fault = read_scale(book, start_of(book, rater), &mut held[at..end]);
+        if fault != 0 {
+            return fault;
+        }
+    }
+    0
+}
+
+// The least and the most of some counts.
+pub struct Range {
+    pub least: u32,
+    pub most: u32,
+}
+
+fn smaller(a: u32, b: u32) -> u32
+    ensures { λ r. ⌜ r ≡ min a b ⌝ }
+{
+    if a < b { a } else { b }
+}
+
+fn larger(a: u32, b: u32) -> u32
+    ensures { λ r. ⌜ r ≡ max a b ⌝ }
+{
+    if a < b { b } else { a }
+}
+
+// The range of a total, which stands at `at`, over all raters.
+fn range_of(held: &[u32], raters: usize, at: usize) -> Range
+    requires { ⌜ (length (now held) ≡ heldSize) × (raters ≤ 16) × (at < scaleSize) ⌝ }
+    ensures { λ r. ⌜ r ≡ rangeOf (totalsFrom (now (held .entry)) at 0 raters) ⌝ }
+{
+    let mut range = Range {
+        least: 4_294_967_295,
+        most: 0,
+    };
+    let mut rater = raters;
+    while 0 < rater {
+        rater -= 1;
+        let n = scale_of(held, rater)[at];
+        range = Range {
+            least: smaller(n, range.least),
+            most: larger(n, range.most),
+        };
+    }
+    range
+}
+
+// 0, or the first of 23 over all raters, 24 over all, and 25 between any two, which are the same exactly if the least is the most.
+pub fn totals_fault(held: &[u32], raters: usize) -> u32
+    requires { ⌜ (length (now held) ≡ heldSize) × (raters ≤ 16) ⌝ }
+    ensures { λ r. ⌜ r ≡ heldTotalsFault (now (held .entry)) raters ⌝ }
+{
+    let defaults = range_of(held, raters, DEFAULTS);
+    if defaults.least == 0 {
+        return NO_DEFAULTS;
+    }
+    let survivors = range_of(held, raters, SURVIVORS);
+    if survivors.least == 0 {
+        return NO_SURVIVORS;
+    }
+    if defaults.least != defaults.most {
+        return UNEQUAL_TOTALS;
+    }
+    if survivors.least != survivors.most {
+        return UNEQUAL_TOTALS;
+    }
+    0
+}
