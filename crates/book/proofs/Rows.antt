@@ -11,11 +11,11 @@ use lib.Dec.{leb}
 use lib.ListN.{length}
 use Rattle.table.specs.Table.{Table, Grade, occupied, obligorsIn}
 use Rattle.table.specs.Counts.{largest, capped}
-use Rattle.table.proofs.Occupied.{someone}
+use Rattle.table.proofs.Occupied.{someone, some-grade}
 use Rattle.book.specs.Checks.{fault}
 use Rattle.book.specs.Rows.{gradeIn, gradesIn, rowChecks, laterChecks, laterFault, rowsFault, totalChecks, tableFault}
-use Rattle.book.specs.Private.{cappedGrade}
-use Rattle.book.proofs.Checks.{first-none, first-some}
+use Rattle.book.specs.Private.{cappedGrade, sumChecks}
+use Rattle.book.proofs.Checks.{held, first-none, first-some}
 
 -- Rows read, and rows to come.
 
@@ -75,10 +75,25 @@ unfolding fault rowChecks laterChecks laterFault rowsFault
 rows-later [] = refl
 rows-later (g ∷ t) = rw (le-leb 0 (g .announced) (omega arith))
 
--- A table of no obligors has empty grades only: the code knows the total, and counts no occupied grades.
+-- The code tests the sum of the rows as 32 bits hold them, and counts no occupied grades: the faults after the last row are the same.
 
 pub all-empty : (t : Table) → obligorsIn t < 1 → length (occupied t) < 1
 all-empty t h = elim (decLe 1 (length (occupied t))) [ yes o ↦ absurd (omega (arith, someone t o)) | no n ↦ omega arith ]
+
+pub sum-fault : (t : Table) (sum : ℕ) → sum ≡ obligorsIn (cappedTable t) → fault (sumChecks sum) ≡ fault (totalChecks t)
+unfolding fault totalChecks
+sum-fault t sum e =
+    let low = capped-le t in
+    let exact : sum ≤ 1_000_000 → sum ≡ obligorsIn t = λ l. e ∙ ap obligorsIn (capped-exact t (omega arith)) in
+    rw (
+      leb-same 1 sum 1 (length (occupied t)) _ refl (λ l. some-grade t (omega arith)) (λ l. all-empty t (omega (arith, exact (omega arith)))),
+      leb-same sum 1_000_000 (obligorsIn t) 1_000_000 _ refl (λ l. omega (arith, exact l)) (λ l. omega arith),
+    )
+
+-- A table without such a fault is as 32 bits hold it.
+pub faultless-exact : (t : Table) → fault (totalChecks t) ≡ 0 → cappedTable t ≡ t
+unfolding totalChecks
+faultless-exact t e = let h = held (totalChecks t) e in capped-exact t (omega (arith, capped-le t))
 
 -- The fault of a table is that of its rows, and if they have none that of its total.
 

@@ -2,13 +2,14 @@
 -- Bytes, rows and places as the code of this crate holds them.
 use Prim.Native.Nat.{ℕ, _+_, _*_, _≤_}
 use mathlib.Core.Path.{_≡_}
-use mathlib.Core.List.{List, _++_}
+use mathlib.Core.List.{List, [], _∷_, _++_}
 use lib.ListN.{length}
 use lib.Seq.{sets}
 use Rattle.table.specs.Table.{Table, Grade}
 use Rattle.table.specs.Counts.{capped}
 use Rattle.table.specs.Words.{placeSize, placeIn}
 use Rattle.book.specs.Bytes.{twoBytes}
+use Rattle.book.specs.Checks.{Check, at-most}
 use Rattle.book.specs.Writing.{tablesOf}
 use Rattle.book.specs.declared.Row.{Row}
 
@@ -26,6 +27,10 @@ gradeOf r = record { obligors = r .obligors .0; defaults = r .defaults; announce
 
 abbrev pub cappedGrade : Grade → Grade
 cappedGrade g = record { obligors = capped (g .obligors); defaults = g .defaults; announced = g .announced }
+
+-- the checks after the last row as the code makes them: by the sum of the obligors alone
+abbrev pub sumChecks : ℕ → List Check
+sumChecks n = at-most 1 n 9 ∷ at-most n 1_000_000 11 ∷ []
 
 -- What a write requires of a lent place: every place that calls left is so.
 pub record Writable (w : List ℕ) : Type 0 where

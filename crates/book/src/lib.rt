@@ -11,6 +11,7 @@ pub use layout::raters_of;
 pub use layout::start_of;
 pub use layout::tables_fault;
 pub use reader::read_fault;
+pub use reader::read_table;
 pub use reader::rows_fault;
 pub use reader::store;
 use table::Obligors;

@@ -1,15 +1,15 @@
-// Reading the table of a rater: first it is checked, then it is stored.
+// Reading the table of a rater: each row is parsed once, checked and stored.
 ghost use Prim.Native.Nat.{_+_, _≤_};
 ghost use mathlib.Core.Path.{_≡_};
 ghost use lib.ListN.{length};
 ghost use Rattle.table.specs.Counts.{capped};
 ghost use Rattle.table.specs.Place.{fresh, placeOf};
-ghost use Rattle.table.specs.Words.{wordsOf};
+ghost use Rattle.table.specs.Words.{placeSize, wordsOf};
 ghost use Rattle.book.specs.Checks.{fault};
 ghost use Rattle.book.specs.Layout.{gradesAt, endOf};
 ghost use Rattle.book.specs.Rows.{obligorsBy, gradeIn, tableFrom, tableOfRater, laterChecks, tableFault};
 ghost use Rattle.book.specs.Reading.{readFault};
-ghost use Rattle.book.specs.Private.{gradeOf, cappedGrade};
+ghost use Rattle.book.specs.Private.{gradeOf, cappedGrade, sumChecks};
 use crate::Row;
 use crate::bytes::byte_at;
 use crate::bytes::four_at;
@@ -108,6 +108,59 @@ pub fn rows_fault(b: &[u8], start: usize) -> u32
     } else {
         MANY_OBLIGORS
     }
+}
+
+// 0, or the number of the first fault of a table whose rows have none and sum to this many obligors.
+fn total_fault(total: u64) -> u32
+    ensures { λ n. ⌜ n ≡ fault (sumChecks total) ⌝ }
+{
+    if total < 1 {
+        return NO_OBLIGORS;
+    }
+    if total <= OBLIGORS as u64 {
+        0
+    } else {
+        MANY_OBLIGORS
+    }
+}
+
+// Reads the table that starts at `start` into an empty place, checked row by row and then in total; 0, or the number of the first fault. After a
+// fault the place means nothing.
+pub fn read_table(b: &[u8], start: usize, place: &mut [u32]) -> u32
+    requires inside { ⌜ (endOf (now b) start ≤ length (now b)) × (gradesAt (now b) start ≤ 40) ⌝ }
+    requires empty { ⌜ now place ≡ wordsOf fresh ⌝ }
+    ensures { λ r. ⌜ r ≡ tableFault (tableFrom (now (b .entry)) start) ⌝ }
+    ensures { λ r. ⌜ (r ≡ 0 → now (place .exit) ≡ wordsOf (placeOf (tableFrom (now (b .entry)) start))) ⌝ }
+    ensures { λ _. ⌜ length (now (place .exit)) ≡ placeSize ⌝ }
+{
+    let grades = byte_at(b, start);
+    let kind = byte_at(b, start + 1);
+    let mut total: u64 = 0;
+    // The first row has none before it, and no rate is below 0.
+    let mut before: u32 = 0;
+    let mut at = start + TABLE_HEAD;
+    let mut i: usize = 0;
+    while i < grades {
+        let row = row_at(b, kind, at);
+        let n = row_fault(row, before);
+        if n != 0 {
+            return n;
+        }
+        place[i] = row.obligors.0;
+        place[DEFAULTS + i] = row.defaults;
+        place[ANNOUNCED + i] = row.announced;
+        total += row.obligors.0 as u64;
+        before = row.announced;
+        at += ROW;
+        i += 1;
+    }
+    let n = total_fault(total);
+    if n != 0 {
+        return n;
+    }
+    place[GRADE_COUNT] = grades as u32;
+    place[LOADED] = 1;
+    0
 }
 
 // 0, or the number of the first fault that a load of this rater's table finds.
