@@ -66,9 +66,9 @@ whole-read b = (
 )
 
 pub tables-sound : (b : List ℕ) → bookFault b ≡ 0 → Every Sound (allTables b)
+unfolding tablesIn
 tables-sound b e = upto 1 (raters b) (omega arith) (omega arith)
   where
     upto : (j k : ℕ) → 1 ≤ j → j + k ≤ suc (raters b) → Every Sound (tablesIn b j k)
-    unfolding tablesIn
     upto j zero from to = tt
     upto j (suc k) from to = (sound-read b j (whole-read b .0 e .1 j from (omega arith)), upto (suc j) k (omega arith) (omega arith))

@@ -1,5 +1,5 @@
 // The layout of a book and its checks: each check answers 0, or the number of the first fault.
-ghost use Prim.Native.Nat.{_+_, _*_, _≤_};
+ghost use Prim.Native.Nat.{_+_, _*_, _≤_, _<_};
 ghost use mathlib.Core.Path.{_≡_};
 ghost use lib.ListN.{length};
 ghost use Rattle.book.specs.Checks.{fault};

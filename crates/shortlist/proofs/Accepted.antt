@@ -21,10 +21,10 @@ module _ (count : Table → ℕ) where
   -- Checks that hold, of each table.
 
   all-some : (n : ℕ) (ts : List Table) → fault (someChecks count (suc n) ts) ≡ 0 → Every (λ t. 1 ≤ count t) ts
+  unfolding someChecks
   all-some n ts e = each ts (held (someChecks count (suc n) ts) e)
     where
       each : (ts : List Table) → Holds (someChecks count (suc n) ts) → Every (λ t. 1 ≤ count t) ts
-      unfolding someChecks
       each [] h = tt
       each (t ∷ ts) h = (h .0, each ts (h .1))
 

@@ -19,7 +19,7 @@ use Rattle.shortlist.specs.Checks.{someChecks, sameChecks, totalsFault, 
 use Rattle.shortlist.specs.Claims.{Comparable, Rater, Listed, InBookOrder}
 use Rattle.shortlist.proofs.Numbers.{every-at, at-every, numbers-le, numbers-rise}
 use Rattle.shortlist.proofs.Listed.{Totalled, tableNo, listed-unbeaten, equals-together, unlisted-beaten, never-empty}
-use Rattle.shortlist.proofs.Totals.{all-some, level-same}
+use Rattle.shortlist.proofs.Totals.{level-same}
 use Rattle.shortlist.proofs.Accepted.{Accepted, accepted}
 
 -- The table of a rater is one of the tables of the book.

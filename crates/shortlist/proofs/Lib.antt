@@ -1,4 +1,5 @@
 pub mod Order
+pub mod Held
 pub mod Numbers
 pub mod Top
 pub mod Listed

@@ -107,7 +107,7 @@ module _ (n : ℕ) (beats : ℕ → ℕ → Bool) (few : n ≤ 16) where
     unfolding compared
     compared-marks zero i marks e c = let s : i ≡ j = omega arith in all-before marks (rw s at c)
     compared-marks (suc k) i marks e c =
-        let rest = λ (m : List ℕ) (d : Comparing j (suc i) m). compared-marks k (suc i) m (omega arith) d in
+        let rest : (m : List ℕ) → Comparing j (suc i) m → Marks (suc j) (compared beats j k (suc i) m) = λ m d. compared-marks k (suc i) m (omega arith) d in
         by-test (Marks (suc j)) (eqb (getD marks i 0) 0)
         (λ z.
         by-test (Marks (suc j)) (beats i j)

@@ -14,7 +14,7 @@ use Rattle.table.specs.Counts.{largest}
 use Rattle.table.proofs.Test.{by-test}
 use Rattle.book.specs.Checks.{Check, at-most, equal, fault, firstFault}
 use Rattle.book.proofs.Checks.{stop, go}
-use Rattle.shortlist.specs.declared.Range.{Range}
+use Rattle.shortlist.specs.declared.scales.Range.{Range}
 use Rattle.shortlist.specs.Checks.{someChecks, equalChecks, sameChecks, totalsFault}
 use Rattle.shortlist.specs.Private.{rangeOf, rangesFault}
 
@@ -99,7 +99,7 @@ ranges-fault t ts few-d few-s =
     let all = t ∷ ts in
     let d = range defaultsIn all in
     let s = range survivorsIn all in
-    let Is = λ (n : ℕ). n ≡ totalsFault all in
+    let Is : ℕ → Type 0 = λ n. n ≡ totalsFault all in
     by-test Is (eqb (d .least) 0) (λ z. stop _ (some-none defaultsIn 23 all (eqb→eq _ 0 z)) (λ k. omega arith))
     (λ z.
     let one = all-some defaultsIn 23 all (not-zero (d .least) z) in

@@ -14,9 +14,9 @@ use Rattle.book.specs.Layout.{raters}
 use Rattle.book.specs.Rows.{tableOfRater}
 use Rattle.cutoff.specs.Sweep.{scaleIn, Sweepable}
 use Rattle.shortlist.specs.Shortlist.{better, numbersOf}
-use Rattle.shortlist.specs.declared.Range.{Range}
-use Rattle.shortlist.specs.declared.Winner.{Winner}
-use Rattle.shortlist.specs.declared.Winner.the-variants.{First, Second, Neither}
+use Rattle.shortlist.specs.declared.scales.Range.{Range}
+use Rattle.shortlist.specs.declared.beaten.Winner.{Winner}
+use Rattle.shortlist.specs.declared.beaten.Winner.the-variants.{First, Second, Neither}
 
 -- The scales.
 

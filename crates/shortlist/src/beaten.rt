@@ -18,7 +18,7 @@ pub enum Winner {
 }
 
 // The better one of rater i and a later one.
-fn winner(held: &[u32], i: usize, j: usize) -> Winner
+fn better_of(held: &[u32], i: usize, j: usize) -> Winner
     requires { ⌜ (i < j) × Searchable (now held) (j + 1) ⌝ }
     ensures { λ r. ⌜ r ≡ winnerOf (neverDearer (scaleAt (now (held .entry)) i) (scaleAt (now (held .entry)) j))
         (neverDearer (scaleAt (now (held .entry)) j) (scaleAt (now (held .entry)) i)) ⌝ }
@@ -54,7 +54,7 @@ fn compare_with(held: &[u32], j: usize, marks: &mut [u32; RATERS])
         if marks[at] != 0 {
             continue;
         }
-        let winner = winner(held, at, j);
+        let winner = better_of(held, at, j);
         match winner {
             Winner::First => {
                 marks[j] = 1;

@@ -29,7 +29,7 @@ pub enum Shortlisted {
 fn read_book(book: &[u8], held: &mut [u32; HELD]) -> u32
     requires { ⌜ length (now held) ≡ heldSize ⌝ }
     ensures { λ r. ⌜ r ≡ bookFault (now (book .entry)) ⌝ }
-    ensures scales { λ r. ⌜ r ≡ 0 → HoldsAll (now (book .entry)) (now (held .exit)) ⌝ }
+    ensures scales { λ r. ⌜ (r ≡ 0 → HoldsAll (now (book .entry)) (now (held .exit))) ⌝ }
     ensures length { λ _. ⌜ length (now (held .exit)) ≡ heldSize ⌝ }
 {
     let head = head_fault(book);

@@ -16,6 +16,7 @@ use refusals::NO_DEFAULTS;
 use refusals::NO_SURVIVORS;
 use refusals::UNEQUAL_TOTALS;
 use table::PLACE;
+use table::put_numbers;
 use table::totals_of;
 
 // The numbers that are held of a rater: the words of its blocks, which end at BLOCKS, where they start, D and S.
@@ -65,7 +66,9 @@ fn hold(place: &[u32], scale: &mut [u32])
     requires { ⌜ HoldsTable (now place) × (length (now scale) ≡ scaleSize) ⌝ }
     ensures { λ _. ⌜ Holds (now (scale .exit)) (tableIn (now (place .entry))) ⌝ }
 {
-    let from = blocks_of(place, &mut scale[..BLOCKS]);
+    let mut blocks = [0u32; BLOCKS];
+    let from = blocks_of(place, &mut blocks);
+    put_numbers(scale, from, &blocks[from..]);
     let totals = totals_of(place);
     scale[START] = from as u32;
     scale[DEFAULTS] = totals.defaults;
@@ -77,7 +80,7 @@ fn read_scale(book: &[u8], start: usize, scale: &mut [u32]) -> u32
     requires table { ⌜ (endOf (now book) start ≤ length (now book)) × (1 ≤ gradesAt (now book) start) × (gradesAt (now book) start ≤ 40) ⌝ }
     requires room { ⌜ length (now scale) ≡ scaleSize ⌝ }
     ensures { λ r. ⌜ r ≡ tableFault (tableFrom (now (book .entry)) start) ⌝ }
-    ensures scale { λ r. ⌜ r ≡ 0 → Holds (now (scale .exit)) (tableFrom (now (book .entry)) start) ⌝ }
+    ensures scale { λ r. ⌜ (r ≡ 0 → Holds (now (scale .exit)) (tableFrom (now (book .entry)) start)) ⌝ }
     ensures length { λ _. ⌜ length (now (scale .exit)) ≡ scaleSize ⌝ }
 {
     let mut place = [0u32; PLACE];
@@ -94,7 +97,7 @@ pub fn read_scales(book: &[u8], held: &mut [u32]) -> u32
     requires laid { ⌜ layoutFault (now book) ≡ 0 ⌝ }
     requires room { ⌜ length (now held) ≡ heldSize ⌝ }
     ensures { λ r. ⌜ r ≡ tableFaults (allTables (now (book .entry))) ⌝ }
-    ensures scales { λ r. ⌜ r ≡ 0 → HoldsAll (now (book .entry)) (now (held .exit)) ⌝ }
+    ensures scales { λ r. ⌜ (r ≡ 0 → HoldsAll (now (book .entry)) (now (held .exit))) ⌝ }
     ensures length { λ _. ⌜ length (now (held .exit)) ≡ heldSize ⌝ }
 {
     let raters = raters_of(book);

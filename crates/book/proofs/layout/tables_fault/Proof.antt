@@ -42,15 +42,15 @@ Inv-loop b raters at₀ j₀ at j = Walked b at j
 abbrev μ-loop : tie.MeasureT-loop
 μ-loop b raters at₀ j₀ at j = raters - j
 
-two-at-requires : tie.Need-two-at-requires Inv-loop μ-loop
+raters-of-requires : tie.Need-raters-of-requires Inv-loop μ-loop
 unfolding headChecks
-two-at-requires c κs = let h = held _ (c .before .pre) in omega arith
+raters-of-requires c κs = let h = held _ (c .before .pre) in omega arith
 
 loop-holds : tie.Need-loop-holds Inv-loop μ-loop
 unfolding headChecks
 loop-holds c =
     let h = held _ (c .before .before .pre) in
-    let e = c .two-at .ensures .0 in
+    let e = c .raters-of .ensures .0 in
     record { to = omega arith; room = omega arith; rest = rw (sub-zero, e) }
 
 table-fault-requires : tie.Need-table-fault-requires Inv-loop μ-loop
@@ -95,7 +95,7 @@ tables-fault-spec =
     (tie.spec
     Inv-loop
     μ-loop
-    two-at-requires
+    raters-of-requires
     (λ c. search needs)
     (λ c. search needs)
     loop-holds
