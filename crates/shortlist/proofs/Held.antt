@@ -1,10 +1,88 @@
 -- The numbers that are held of each rater: where they stand, and what the scales that they hold are.
-use Prim.Native.Nat.{ℕ, suc, _+_, _-_, _*_, _≤_, _<_}
+use Prim.Native.Nat.{ℕ, suc, _+_, _-_, _*_, _≤_, _<_, min, max}
 use mathlib.Core.Path.{_≡_, refl, sym, ap, _∙_}
 use mathlib.Core.List.{List, [], _∷_, _++_}
 use native.Mathlib.Omega.{arith}
-use lib.ListN.{length, getD, take, drop, length-take, length-drop}
-use Rattle.shortlist.specs.Private.{scaleSize, heldSize, heldOf}
+use lib.ListN.{length, getD, set, take, drop, length-take, length-drop, length-set}
+use lib.Seq.{paste, length-paste, take-paste, take-length, take-set-le, take-add, length-take-le, drop-at, getD-set-same, getD-set-other}
+use Rattle.table.specs.Table.{Table, defaultsIn, survivorsIn}
+use Rattle.pooling.specs.Private.{blockWords, spanning}
+use Rattle.shortlist.specs.Private.{scaleSize, heldSize, heldOf, blocksHeld, Holds, totalsFrom, rangeOf}
+use Rattle.shortlist.specs.declared.scales.Range.{Range}
 
 pub length-held : (held : List ℕ) (r : ℕ) → length held ≡ heldSize → r < 16 → length (heldOf held r) ≡ scaleSize
 length-held held r e h = rw (length-take, length-drop) (omega arith)
+
+-- Their totals, from some rater on.
+
+pub totals-end : (held : List ℕ) (at r n : ℕ) → n ≤ r → totalsFrom held at r (n - r) ≡ []
+unfolding totalsFrom
+totals-end held at r n h = let e : n - r ≡ 0 = omega arith in rw e
+
+pub totals-down : (held : List ℕ) (at r n : ℕ) → 0 < r → r ≤ n
+    → totalsFrom held at (r - 1) (n - (r - 1)) ≡ getD (heldOf held (r - 1)) at 0 ∷ totalsFrom held at r (n - r)
+unfolding totalsFrom
+totals-down held at r n pos le =
+    let e : n - (r - 1) ≡ suc (n - r) = omega arith in
+    let s : suc (r - 1) ≡ r = omega arith in
+    rw (e, s)
+
+pub range-next : {range : Range} {least most : ℕ} (held : List ℕ) (at r n : ℕ) → 0 < r → r ≤ n → range ≡ rangeOf (totalsFrom held at r (n - r))
+    → least ≡ min (getD (heldOf held (r - 1)) at 0) (range .least) → most ≡ max (getD (heldOf held (r - 1)) at 0) (range .most)
+    → _≡_ {A = Range} (record { least = least; most = most }) (rangeOf (totalsFrom held at (r - 1) (n - (r - 1))))
+unfolding rangeOf
+range-next held at r n pos le e f g = rw (totals-down held at r n pos le, f, g, e) refl
+
+-- A rater's numbers, as they are stored over any 123: the words of its blocks so that they end at 120, then where they start, D and S.
+module _ (w part : List ℕ) (from d s : ℕ) (long : length w ≡ 123) (ends : from + length part ≡ 120) where
+  abbrev put : List ℕ
+  put = paste w from part (length part)
+
+  abbrev all : List ℕ
+  all = set (set (set put 120 from) 121 d) 122 s
+
+  long-put : length put ≡ 123
+  long-put = length-paste w from part (length part) (omega arith) (omega arith) ∙ long
+
+  front : take 120 all ≡ take from w ++ part
+  front =
+      take-set-le 120 (set (set put 120 from) 121 d) 122 s (omega arith)
+      ∙ take-set-le 120 (set put 120 from) 121 d (omega arith)
+      ∙ take-set-le 120 put 120 from (omega arith)
+      ∙ ap (λ (n : ℕ). take n put) (sym ends)
+      ∙ take-paste w from part (length part) (omega arith) (omega arith)
+      ∙ ap (λ (l : List ℕ). take from w ++ l) (take-length part)
+
+  -- the words of the blocks
+  middle : take (length part) (drop from all) ≡ part
+  middle =
+      let back = drop-at (take from all) (take (length part) (drop from all)) from (length-take-le from all (rw (length-set, length-set, length-set) (omega (arith, long-put)))) in
+      let split = take-add from (length part) all in
+      sym back
+      ∙ ap (λ (l : List ℕ). drop from l) (sym split ∙ ap (λ (n : ℕ). take n all) ends ∙ front)
+      ∙ drop-at (take from w) part from (length-take-le from w (omega arith))
+
+  starts : getD all 120 0 ≡ from
+  starts =
+      getD-set-other (set (set put 120 from) 121 d) 122 120 s 0 (λ e. omega arith)
+      ∙ getD-set-other (set put 120 from) 121 120 d 0 (λ e. omega arith)
+      ∙ getD-set-same put 120 from 0 (omega (arith, long-put))
+
+  second : getD all 121 0 ≡ d
+  second =
+      getD-set-other (set (set put 120 from) 121 d) 122 121 s 0 (λ e. omega arith)
+      ∙ getD-set-same (set put 120 from) 121 d 0 (rw length-set (omega (arith, long-put)))
+
+  third : getD all 122 0 ≡ s
+  third = getD-set-same (set (set put 120 from) 121 d) 122 s 0 (rw (length-set, length-set) (omega (arith, long-put)))
+
+  pub held-stored : (t : Table) → part ≡ blockWords (spanning t) → d ≡ defaultsIn t → s ≡ survivorsIn t → Holds all t
+  held-stored t e f g =
+      let n : 120 - from ≡ length part = omega arith in
+      record {
+        long = rw (length-set, length-set, length-set) long-put;
+        inside = omega (arith, starts);
+        blocks = rw (starts, n) (middle ∙ e);
+        defaults = second ∙ f;
+        survivors = third ∙ g;
+      }

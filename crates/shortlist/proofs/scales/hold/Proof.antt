@@ -1,78 +1,46 @@
+-- `hold` meets its contract.
+use Prim.Native.Nat.{ℕ, _+_, _-_}
+use mathlib.Core.Path.{_≡_, sym, ap, _∙_}
+use native.Mathlib.Omega.{arith}
 use borrow.Author.Needs.{needs}
+use denote.Ref.{now}
+use lib.ListN.{length, take, drop, length-set, length-take, length-drop}
+use Rattle.table.specs.declared.Totals.{Totals}
+use Rattle.table.specs.Counts.{totalsOf}
+use Rattle.table.specs.Words.{tableIn}
+use Rattle.pooling.proofs.Words.{words-part}
+use Rattle.shortlist.proofs.Held.{held-stored}
 use Rattle.shortlist.proofs.scales.hold.Statement.{statement}
 use Rattle.shortlist.proofs.scales.hold.Tie as tie
-use Rattle.shortlist.proofs.scales.hold.Reads as reads
-use Rattle.shortlist.proofs.scales.hold.Lts as lts
-use Rattle.pooling.proofs.blocks_of.Reads as blocks-of-reads
-use Rattle.table.proofs.put_numbers.Reads as put-numbers-reads
-use Rattle.table.proofs.totals_of.Reads as totals-of-reads
 
--- src/scales.rt:70:9
-blocks-of-requires : tie.Need-blocks-of-requires
-blocks-of-requires c κs = search needs
-
--- src/scales.rt:71:30
-mul-put-numbers : tie.Need-mul-put-numbers
-mul-put-numbers c = search needs
-
--- src/scales.rt:71:30
-sub-put-numbers : tie.Need-sub-put-numbers
-sub-put-numbers c = search needs
-
--- src/scales.rt:71:30
-part-put-numbers-start : tie.Need-part-put-numbers-start
-part-put-numbers-start c = search needs
-
--- src/scales.rt:71:30
-part-put-numbers-end : tie.Need-part-put-numbers-end
-part-put-numbers-end c = search needs
-
--- src/scales.rt:71:5
-put-numbers-requires : tie.Need-put-numbers-requires
-put-numbers-requires c κs = search needs
-
--- src/scales.rt:72:9
-totals-of-requires : tie.Need-totals-of-requires
-totals-of-requires c κs = search needs
-
--- src/scales.rt:73:20
-cast-scale : tie.Need-cast-scale
-cast-scale c = search needs
-
--- src/scales.rt:73:5
-slice-write-scale : tie.Need-slice-write-scale
-slice-write-scale c = search needs
-
--- src/scales.rt:74:5
-slice-write-scale-2 : tie.Need-slice-write-scale-2
-slice-write-scale-2 c = ?
-
--- src/scales.rt:75:5
-slice-write-scale-3 : tie.Need-slice-write-scale-3
-slice-write-scale-3 c = ?
-
--- src/scales.rt:65:1
-same-length : tie.Need-same-length
-same-length c = search needs
-
--- src/scales.rt:65:1
 returns : tie.Need-returns
-returns c = ?
+unfolding totalsOf
+returns c =
+    let f = c .before .before .before .before .before .before .before .blocks-of in
+    let p = c .before .before .before .put-numbers in
+    let a = c .before .before .before .before .before .before .before .before .before .before .before in
+    let t = c .totals-of .ensures in
+    let part = take (120 - f .result) (drop (f .result) (f .last .1 .0)) in
+    let ends : f .result + length part ≡ 120 = rw (length-take, length-drop) (omega (arith, f .ensures .0 .1, f .ensures .1)) in
+    rw (p .ensures)
+    (held-stored (now (a .args .scale)) part (f .result) _ _ (a .pre .1) ends (tableIn (now (a .args .place)))
+    (words-part (f .last .1 .0) (f .result) 120 _ (f .ensures .0 .0) (f .ensures .1))
+    (ap (λ (x : Totals). x .defaults) t) (ap (λ (x : Totals). x .survivors .0) t))
 
 pub hold-spec : {M : Type 1} → statement M
 hold-spec =
     tie.close
     (tie.spec
-    blocks-of-requires
-    mul-put-numbers
-    sub-put-numbers
-    part-put-numbers-start
-    part-put-numbers-end
-    put-numbers-requires
-    totals-of-requires
-    cast-scale
-    slice-write-scale
-    slice-write-scale-2
-    slice-write-scale-3
-    same-length
+    (λ c κs. search needs)
+    (λ c. search needs)
+    (λ c. search needs)
+    (λ c. search needs)
+    (λ c. search needs)
+    (λ c κs. search needs)
+    (λ c κs. search needs)
+    (λ c. search needs)
+    (λ c. search needs)
+    (λ c. simp length-set (search needs))
+    (λ c. simp length-set (search needs))
+    (λ c. search needs)
     returns)

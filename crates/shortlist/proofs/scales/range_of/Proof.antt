@@ -1,56 +1,49 @@
+-- `range_of` meets its contract. The invariant: the range is that of the raters from `rater` on.
+use Prim.Native.Nat.{ℕ, suc, _+_, _-_, _*_, _≤_, _<_}
+use mathlib.Core.Path.{_≡_, refl, ap, _∙_}
+use native.Mathlib.Omega.{arith}
+use borrow.Author.Needs.{needs}
+use denote.Ref.{now}
+use lib.ListN.{length, getD}
+use Rattle.shortlist.specs.Private.{heldOf, totalsFrom, rangeOf}
+use Rattle.shortlist.specs.declared.scales.Range.{Range}
+use Rattle.shortlist.proofs.Held.{length-held, totals-end, range-next}
 use Rattle.shortlist.proofs.scales.range_of.Statement.{statement}
 use Rattle.shortlist.proofs.scales.range_of.Tie as tie
-use Rattle.shortlist.proofs.scales.range_of.Reads as reads
-use Rattle.shortlist.proofs.scales.range_of.Lts as lts
-use Rattle.shortlist.proofs.scales.larger.Reads as larger-reads
-use Rattle.shortlist.proofs.scales.scale_of.Reads as scale-of-reads
-use Rattle.shortlist.proofs.scales.smaller.Reads as smaller-reads
 
 abbrev Inv-loop : tie.InvT-loop
-Inv-loop held raters at range₀ rater₀ range rater = ?
+Inv-loop held raters at range₀ rater₀ range rater = (rater ≤ raters) × (range ≡ rangeOf (totalsFrom held at rater (raters - rater)))
 
 abbrev μ-loop : tie.MeasureT-loop
-μ-loop held raters at range₀ rater₀ range rater = ?
+μ-loop held raters at range₀ rater₀ range rater = rater
 
--- src/scales.rt:145:5
 loop-holds : tie.Need-loop-holds Inv-loop μ-loop
-loop-holds c = ?
+unfolding rangeOf
+loop-holds c =
+    let a = c .before .args in
+    (omega arith, rw (totals-end (now (a .held)) (a .at) (a .raters) (a .raters) (omega arith)))
 
--- src/scales.rt:146:9
-sub-rater : tie.Need-sub-rater Inv-loop μ-loop
-sub-rater c = ?
+here : (c : tie.In-loop Inv-loop μ-loop) → (length (now (c .before .before .before .args .held)) ≡ 1968) × (c .before .loop .rater - 1 < 16)
+here c = let p = c .before .before .before .pre in (p .0, omega (arith, p .1, c .before .loop .inv .0))
 
--- src/scales.rt:147:17
-scale-of-requires : tie.Need-scale-of-requires Inv-loop μ-loop
-scale-of-requires c κs = ?
+long : (c : tie.After-scale-of Inv-loop μ-loop) → length (now (c .scale-of .result)) ≡ 123
+long c = let h = here (c .before) in rw (c .scale-of .ensures) (length-held _ _ (h .0) (h .1))
 
--- src/scales.rt:147:17
-mul-n : tie.Need-mul-n Inv-loop μ-loop
-mul-n c = ?
-
--- src/scales.rt:147:17
-shared-slice-read-n : tie.Need-shared-slice-read-n Inv-loop μ-loop
-shared-slice-read-n c = ?
-
--- src/scales.rt:149:20
-smaller-requires : tie.Need-smaller-requires Inv-loop μ-loop
-smaller-requires c κs = ?
-
--- src/scales.rt:150:19
-larger-requires : tie.Need-larger-requires Inv-loop μ-loop
-larger-requires c κs = ?
-
--- src/scales.rt:145:5
-loop-less : tie.Need-loop-less Inv-loop μ-loop
-loop-less c = ?
-
--- src/scales.rt:145:5
 loop-again : tie.Need-loop-again Inv-loop μ-loop
-loop-again c = ?
+loop-again c =
+    let s = c .before .before .before .before .before .before .before in
+    let l = c .before .before .before .before .before .loop in
+    let one = c .before .before .before .scale-of .ensures in
+    (omega (arith, l .inv .0), range-next (now (s .args .held)) (s .args .at) (l .rater) (s .args .raters) (omega arith) (l .inv .0) (l .inv .1)
+    (rw one at (c .before .smaller .ensures)) (rw one at (c .larger .ensures)))
 
--- src/scales.rt:136:1
 returns : tie.Need-returns Inv-loop μ-loop
-returns c = ?
+returns c =
+    let l = c .before .loop in
+    let s = c .before .before .before .args in
+    let e : l .rater ≡ 0 = omega arith in
+    let z : s .raters - 0 ≡ s .raters = omega arith in
+    rw (e, z) at (l .inv .1)
 
 pub range-of-spec : {M : Type 1} → statement M
 range-of-spec =
@@ -59,12 +52,12 @@ range-of-spec =
     Inv-loop
     μ-loop
     loop-holds
-    sub-rater
-    scale-of-requires
-    mul-n
-    shared-slice-read-n
-    smaller-requires
-    larger-requires
-    loop-less
+    (λ c. omega arith)
+    (λ c κs. here c)
+    (λ c. search needs)
+    (λ c. omega (arith, long (c .before)))
+    (λ c κs. search needs)
+    (λ c κs. search needs)
+    (λ c. omega arith)
     loop-again
     returns)

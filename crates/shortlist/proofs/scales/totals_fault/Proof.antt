@@ -1,46 +1,51 @@
+-- `totals_fault` meets its contract: each way out has the number of the check that ends there.
+use mathlib.Core.Path.{_≡_, refl, sym, _∙_}
+use mathlib.Core.Bool.{cond}
 use borrow.Author.Needs.{needs}
+use borrow.Author.Tests.{eq-eqb, ne-eqb}
+use denote.Ref.{now}
+use lib.Dec.{eqb}
+use Rattle.shortlist.specs.Private.{rangesFault, heldTotalsFault}
 use Rattle.shortlist.proofs.scales.totals_fault.Statement.{statement}
 use Rattle.shortlist.proofs.scales.totals_fault.Tie as tie
-use Rattle.shortlist.proofs.scales.totals_fault.Reads as reads
-use Rattle.shortlist.proofs.scales.totals_fault.Lts as lts
-use Rattle.shortlist.proofs.scales.range_of.Reads as range-of-reads
 
--- src/scales.rt:161:9
-range-of-requires : tie.Need-range-of-requires
-range-of-requires c κs = search needs
-
--- src/scales.rt:163:9
 returns : tie.Need-returns
-returns c = ?
+unfolding rangesFault
+returns c = rw (← c .before .before .range-of .ensures, eq-eqb _ 0 (c .if1 .taken))
 
--- src/scales.rt:165:9
-range-of-requires-2 : tie.Need-range-of-requires-2
-range-of-requires-2 c κs = search needs
-
--- src/scales.rt:167:9
 returns-2 : tie.Need-returns-2
-returns-2 c = ?
+unfolding rangesFault
+returns-2 c =
+    let s = c .before .before in
+    let d = s .before in
+    rw (← s .range-of2 .ensures, ← d .before .before .range-of .ensures, ne-eqb _ 0 (d .if1 .left), eq-eqb _ 0 (c .if2 .taken))
 
--- src/scales.rt:170:9
+-- Behind 23 and 24.
+behind : (c : tie.Else2) →
+    let s = c .before .before .range-of2 .result in
+    let e = c .before .before .before in
+    let d = e .before .before .range-of .result in
+    let a = e .before .before .before .before .args in
+    cond (eqb (d .least) (d .most)) (cond (eqb (s .least) (s .most)) 0 25) 25 ≡ heldTotalsFault (now (a .held)) (a .raters)
+unfolding rangesFault
+behind c =
+    let s = c .before .before in
+    let d = s .before in
+    rw (← s .range-of2 .ensures, ← d .before .before .range-of .ensures, ne-eqb _ 0 (d .if1 .left), ne-eqb _ 0 (c .if2 .left)) refl
+
 returns-3 : tie.Need-returns-3
-returns-3 c = ?
+returns-3 c = rw (ne-eqb _ _ (c .if3 .taken)) at (behind (c .before .before))
 
--- src/scales.rt:173:9
 returns-4 : tie.Need-returns-4
-returns-4 c = ?
+returns-4 c =
+    let e = c .before .before in
+    rw (eq-eqb _ _ (e .if3 .left), ne-eqb _ _ (c .if4 .taken)) at (behind (e .before .before))
 
--- src/scales.rt:157:1
 returns-5 : tie.Need-returns-5
-returns-5 c = ?
+returns-5 c =
+    let e = c .before .before in
+    rw (eq-eqb _ _ (e .if3 .left), eq-eqb _ _ (c .if4 .left)) at (behind (e .before .before))
 
 pub totals-fault-spec : {M : Type 1} → statement M
 totals-fault-spec =
-    tie.close
-    (tie.spec
-    range-of-requires
-    returns
-    range-of-requires-2
-    returns-2
-    returns-3
-    returns-4
-    returns-5)
+    tie.close (tie.spec (λ c κs. search needs) returns (λ c κs. search needs) returns-2 returns-3 returns-4 returns-5)
