@@ -8,3 +8,4 @@ pub mod Totals
 pub mod Pooled
 pub mod Accepted
 pub mod Books
+pub mod Writing

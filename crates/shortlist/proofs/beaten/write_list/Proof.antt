@@ -1,69 +1,71 @@
+-- `write_list` meets its contract. The invariant is `Listing`.
+use Prim.Native.Nat.{ℕ, _-_, _≤_, _<_}
+use mathlib.Core.Path.{_≡_}
+use mathlib.Core.Bool.{Bool}
+use mathlib.Core.List.{List}
+use native.Mathlib.Omega.{arith}
+use borrow.Author.Needs.{needs}
+use borrow.Author.Tests.{eq-eqb, ne-eqb}
+use denote.Ref.{now}
+use lib.Dec.{eqb}
+use lib.ListN.{length, getD, take, length-take}
+use lib.Seq.{getD-take}
+use Rattle.shortlist.proofs.Writing.{Listing, none-listed, length-listed, passed-over, put-down, all-listed}
 use Rattle.shortlist.proofs.beaten.write_list.Statement.{statement}
 use Rattle.shortlist.proofs.beaten.write_list.Tie as tie
-use Rattle.shortlist.proofs.beaten.write_list.Reads as reads
-use Rattle.shortlist.proofs.beaten.write_list.Lts as lts
+
+abbrev none : ℕ → Bool
+none x = eqb x 0
 
 abbrev Inv-loop : tie.InvT-loop
-Inv-loop marks raters out₀ count₀ i₀ out count i = ?
+Inv-loop marks raters out₀ count₀ i₀ out count i = Listing none (take raters marks) out₀ out count i
 
 abbrev μ-loop : tie.MeasureT-loop
-μ-loop marks raters out₀ count₀ i₀ out count i = ?
+μ-loop marks raters out₀ count₀ i₀ out count i = raters - i
 
--- src/beaten.rt:77:5
-loop-holds : tie.Need-loop-holds Inv-loop μ-loop
-loop-holds c = ?
+-- The marks of the raters.
+module _ (marks : List ℕ) (raters : ℕ) (few : raters ≤ 16) (long : length marks ≡ 16) where
+  count : length (take raters marks) ≡ raters
+  count = rw length-take (omega arith)
 
--- src/beaten.rt:79:9
-add-i : tie.Need-add-i Inv-loop μ-loop
-add-i c = ?
+  mark : (i : ℕ) → i < raters → getD (take raters marks) i 0 ≡ getD marks i 0
+  mark i l = getD-take raters marks i 0 l
 
--- src/beaten.rt:80:12
-mul-if1 : tie.Need-mul-if1 Inv-loop μ-loop
-mul-if1 c = ?
-
--- src/beaten.rt:80:12
-element-copy-out-if1 : tie.Need-element-copy-out-if1 Inv-loop μ-loop
-element-copy-out-if1 c = ?
-
--- src/beaten.rt:81:26
-cast-out : tie.Need-cast-out Inv-loop μ-loop
-cast-out c = ?
-
--- src/beaten.rt:81:13
-mul-out : tie.Need-mul-out Inv-loop μ-loop
-mul-out c = ?
-
--- src/beaten.rt:81:13
 slice-write-out : tie.Need-slice-write-out Inv-loop μ-loop
-slice-write-out c = ?
+slice-write-out c =
+    let a = c .before .before .before .before in
+    let w = c .before .before .before .loop .inv in
+    let n = count (now (a .args .marks)) (a .args .raters) (a .pre .0) (a .pre .2) in
+    let m = length-listed _ _ _ _ _ _ w (omega (arith, a .pre .1)) in
+    omega (arith, c .before .before .loop-test .taken, w .most, a .pre .1)
 
--- src/beaten.rt:82:13
-add-count : tie.Need-add-count Inv-loop μ-loop
-add-count c = ?
-
--- src/beaten.rt:77:5
-loop-less : tie.Need-loop-less Inv-loop μ-loop
-loop-less c = ?
-
--- src/beaten.rt:77:5
 loop-again : tie.Need-loop-again Inv-loop μ-loop
-loop-again c = ?
+loop-again c =
+    let a = c .before .before .before .before in
+    let l = c .before .before .loop-test .taken in
+    let n = count (now (a .args .marks)) (a .args .raters) (a .pre .0) (a .pre .2) in
+    put-down _ _ _ _ _ _ (c .before .before .before .loop .inv) (omega (arith, a .pre .1)) (omega arith)
+    (rw (mark (now (a .args .marks)) (a .args .raters) (a .pre .0) (a .pre .2) _ l) (eq-eqb _ 0 (c .if1 .taken)))
 
--- src/beaten.rt:77:5
-loop-less-2 : tie.Need-loop-less-2 Inv-loop μ-loop
-loop-less-2 c = ?
-
--- src/beaten.rt:77:5
 loop-again-2 : tie.Need-loop-again-2 Inv-loop μ-loop
-loop-again-2 c = ?
+loop-again-2 c =
+    let a = c .before .before .before .before in
+    let l = c .before .before .loop-test .taken in
+    let n = count (now (a .args .marks)) (a .args .raters) (a .pre .0) (a .pre .2) in
+    passed-over _ _ _ _ _ _ (c .before .before .before .loop .inv) (omega (arith, a .pre .1)) (omega arith)
+    (rw (mark (now (a .args .marks)) (a .args .raters) (a .pre .0) (a .pre .2) _ l) (ne-eqb _ 0 (c .if1 .left)))
 
--- src/beaten.rt:70:1
 same-length : tie.Need-same-length Inv-loop μ-loop
-same-length c = ?
+same-length c =
+    let a = c .before .before in
+    let n = count (now (a .args .marks)) (a .args .raters) (a .pre .0) (a .pre .2) in
+    length-listed _ _ _ _ _ _ (c .before .loop .inv) (omega (arith, a .pre .1))
 
--- src/beaten.rt:70:1
 returns : tie.Need-returns Inv-loop μ-loop
-returns c = ?
+returns c =
+    let a = c .before .before in
+    let n = count (now (a .args .marks)) (a .args .raters) (a .pre .0) (a .pre .2) in
+    all-listed _ _ _ _ _ _ (c .before .loop .inv) (omega (arith, a .pre .1)) (omega (arith, c .loop-test .left))
 
 pub write-list-spec : {M : Type 1} → statement M
 write-list-spec =
@@ -71,17 +73,17 @@ write-list-spec =
     (tie.spec
     Inv-loop
     μ-loop
-    loop-holds
-    add-i
-    mul-if1
-    element-copy-out-if1
-    cast-out
-    mul-out
+    (λ c. none-listed none _ _)
+    (λ c. search needs)
+    (λ c. search needs)
+    (λ c. search needs)
+    (λ c. search needs)
+    (λ c. search needs)
     slice-write-out
-    add-count
-    loop-less
+    (λ c. search needs)
+    (λ c. search needs)
     loop-again
-    loop-less-2
+    (λ c. search needs)
     loop-again-2
     same-length
     returns)
