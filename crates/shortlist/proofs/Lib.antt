@@ -9,3 +9,4 @@ pub mod Pooled
 pub mod Accepted
 pub mod Books
 pub mod Writing
+pub mod Compared
