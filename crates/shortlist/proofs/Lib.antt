@@ -8,3 +8,5 @@ pub mod Totals
 pub mod Pooled
 pub mod Accepted
 pub mod Books
+pub mod Writing
+pub mod Compared

@@ -1,93 +1,77 @@
+-- `compare_with` meets its contract. The invariant: comparing with those from i on gives what comparing with all gives.
+use Prim.Native.Nat.{_-_, _≤_}
+use mathlib.Core.Path.{_≡_, _∙_}
+use native.Mathlib.Omega.{arith}
+use borrow.Author.Needs.{needs}
+use denote.Ref.{now}
+use lib.ListN.{length, length-set}
+use Rattle.shortlist.specs.Private.{beats, compared}
+use Rattle.shortlist.specs.declared.beaten.Winner.{Winner}
+use Rattle.shortlist.specs.declared.beaten.Winner.the-variants.{First, Second, Neither}
+use Rattle.shortlist.proofs.Compared.{first-beats, second-beats, wonBy, skipped, won}
 use Rattle.shortlist.proofs.beaten.compare_with.Statement.{statement}
 use Rattle.shortlist.proofs.beaten.compare_with.Tie as tie
-use Rattle.shortlist.proofs.beaten.compare_with.Reads as reads
-use Rattle.shortlist.proofs.beaten.compare_with.Lts as lts
-use Rattle.shortlist.proofs.beaten.better_of.Reads as better-of-reads
 
 abbrev Inv-loop : tie.InvT-loop
-Inv-loop held j marks₀ i₀ marks i = ?
+Inv-loop held j marks₀ i₀ marks i =
+    (i ≤ j) × (length marks ≡ 16) × (compared (beats held) j (j - i) i marks ≡ compared (beats held) j j 0 marks₀)
 
 abbrev μ-loop : tie.MeasureT-loop
-μ-loop held j marks₀ i₀ marks i = ?
+μ-loop held j marks₀ i₀ marks i = j - i
 
--- src/beaten.rt:51:5
 loop-holds : tie.Need-loop-holds Inv-loop μ-loop
-loop-holds c = ?
+loop-holds c =
+    let a = c .before in
+    let e : a .args .j - 0 ≡ a .args .j = omega arith in
+    (omega arith, a .pre .0, rw e)
 
--- src/beaten.rt:53:9
-add-i : tie.Need-add-i Inv-loop μ-loop
-add-i c = ?
-
--- src/beaten.rt:54:12
-mul-if1 : tie.Need-mul-if1 Inv-loop μ-loop
-mul-if1 c = ?
-
--- src/beaten.rt:54:12
-element-copy-out-if1 : tie.Need-element-copy-out-if1 Inv-loop μ-loop
-element-copy-out-if1 c = ?
-
--- src/beaten.rt:51:5
-loop-less : tie.Need-loop-less Inv-loop μ-loop
-loop-less c = ?
-
--- src/beaten.rt:51:5
 loop-again : tie.Need-loop-again Inv-loop μ-loop
-loop-again c = ?
+loop-again c =
+    let a = c .before .before .before .before .before .args in
+    let l = c .before .before .before .loop in
+    let less = c .before .before .loop-test .taken in
+    (omega arith, l .inv .1, skipped (beats (now (a .held))) (a .j) (l .i) (l .marks) less (c .if1 .taken) ∙ l .inv .2)
 
--- src/beaten.rt:57:13
 better-of-requires : tie.Need-better-of-requires Inv-loop μ-loop
-better-of-requires c κs = ?
+better-of-requires c κs = (c .before .before .loop-test .taken, c .before .before .before .before .before .pre .1)
 
--- src/beaten.rt:60:17
-enum-told : tie.Need-enum-told Inv-loop μ-loop
-enum-told c = ?
+-- Once i and j are compared the winner says how it goes on.
+turn : (c : tie.After-better-of Inv-loop μ-loop) (w : Winner) → c .better-of .result ≡ w →
+    let a = c .before .before .before .before .before .before .args in
+    let l = c .before .before .before .before .loop in
+    wonBy (beats (now (a .held))) (a .j) (l .i) (l .marks) w ≡ compared (beats (now (a .held))) (a .j) (a .j) 0 (now (a .marks))
+turn c w e =
+    let a = c .before .before .before .before .before .before .args in
+    let l = c .before .before .before .before .loop in
+    let held = now (a .held) in
+    let says = rw e at (c .better-of .ensures) in
+    won (beats held) (a .j) (l .i) (l .marks) (c .before .before .before .loop-test .taken) (c .before .if1 .left) w
+    (first-beats held (l .i) (a .j) says) (second-beats held (l .i) (a .j) says)
+    ∙ l .inv .2
 
--- src/beaten.rt:60:17
-mul-marks : tie.Need-mul-marks Inv-loop μ-loop
-mul-marks c = ?
-
--- src/beaten.rt:60:17
-element-write-marks : tie.Need-element-write-marks Inv-loop μ-loop
-element-write-marks c = ?
-
--- src/beaten.rt:61:17
 returns : tie.Need-returns Inv-loop μ-loop
-returns c = ?
+returns c =
+    let b = c .before .before in
+    (turn b First (c .enum-told .given .1), rw length-set (b .before .before .before .before .loop .inv .1))
 
--- src/beaten.rt:63:31
-enum-told-2 : tie.Need-enum-told-2 Inv-loop μ-loop
-enum-told-2 c = ?
-
--- src/beaten.rt:63:31
-mul-marks-2 : tie.Need-mul-marks-2 Inv-loop μ-loop
-mul-marks-2 c = ?
-
--- src/beaten.rt:63:31
-element-write-marks-2 : tie.Need-element-write-marks-2 Inv-loop μ-loop
-element-write-marks-2 c = ?
-
--- src/beaten.rt:51:5
-loop-less-2 : tie.Need-loop-less-2 Inv-loop μ-loop
-loop-less-2 c = ?
-
--- src/beaten.rt:51:5
 loop-again-2 : tie.Need-loop-again-2 Inv-loop μ-loop
-loop-again-2 c = ?
+loop-again-2 c =
+    let b = c .before .before in
+    let l = b .before .before .before .before .loop in
+    (omega (arith, b .before .before .before .loop-test .taken), rw length-set (l .inv .1), turn b Second (c .enum-told2 .given .1))
 
-enum-told-3 : tie.Need-enum-told-3 Inv-loop μ-loop
-enum-told-3 c = ?
-
--- src/beaten.rt:51:5
-loop-less-3 : tie.Need-loop-less-3 Inv-loop μ-loop
-loop-less-3 c = ?
-
--- src/beaten.rt:51:5
 loop-again-3 : tie.Need-loop-again-3 Inv-loop μ-loop
-loop-again-3 c = ?
+loop-again-3 c =
+    let b = c .before .before in
+    let l = b .before .before .before .before .loop in
+    (omega (arith, b .before .before .before .loop-test .taken), l .inv .1, turn b Neither (c .enum-told3 .given .1))
 
--- src/beaten.rt:45:1
 returns-2 : tie.Need-returns-2 Inv-loop μ-loop
-returns-2 c = ?
+unfolding compared
+returns-2 c =
+    let l = c .before .loop in
+    let e : c .before .before .before .args .j - l .i ≡ 0 = omega (arith, c .loop-test .left) in
+    (rw e at (l .inv .2), l .inv .1)
 
 pub compare-with-spec : {M : Type 1} → statement M
 compare-with-spec =
@@ -96,22 +80,22 @@ compare-with-spec =
     Inv-loop
     μ-loop
     loop-holds
-    add-i
-    mul-if1
-    element-copy-out-if1
-    loop-less
+    (λ c. search needs)
+    (λ c. search needs)
+    (λ c. search needs)
+    (λ c. search needs)
     loop-again
     better-of-requires
-    enum-told
-    mul-marks
-    element-write-marks
+    (λ c. search needs)
+    (λ c. search needs)
+    (λ c. search needs)
     returns
-    enum-told-2
-    mul-marks-2
-    element-write-marks-2
-    loop-less-2
+    (λ c. search needs)
+    (λ c. search needs)
+    (λ c. search needs)
+    (λ c. search needs)
     loop-again-2
-    enum-told-3
-    loop-less-3
+    (λ c. search needs)
+    (λ c. search needs)
     loop-again-3
     returns-2)

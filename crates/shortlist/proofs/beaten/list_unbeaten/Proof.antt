@@ -1,47 +1,54 @@
+-- `list_unbeaten` meets its contract. The invariant: each of the first j raters is compared with those before it.
+use Prim.Native.Nat.{_-_, _≤_}
+use mathlib.Core.Path.{_≡_, refl}
+use native.Mathlib.Numerals.{add-one}
+use native.Mathlib.Omega.{arith}
+use borrow.Author.Needs.{needs}
+use denote.Ref.{now}
+use lib.ListN.{length}
+use Rattle.shortlist.specs.Private.{beats, allCompared}
+use Rattle.shortlist.proofs.Compared.{fewer}
 use Rattle.shortlist.proofs.beaten.list_unbeaten.Statement.{statement}
 use Rattle.shortlist.proofs.beaten.list_unbeaten.Tie as tie
-use Rattle.shortlist.proofs.beaten.list_unbeaten.Reads as reads
-use Rattle.shortlist.proofs.beaten.list_unbeaten.Lts as lts
-use Rattle.shortlist.proofs.beaten.compare_with.Reads as compare-with-reads
-use Rattle.shortlist.proofs.beaten.write_list.Reads as write-list-reads
 
 abbrev Inv-loop : tie.InvT-loop
-Inv-loop held raters out marks₀ j₀ marks j = ?
+Inv-loop held raters out marks₀ j₀ marks j = (j ≤ raters) × (length marks ≡ 16) × (marks ≡ allCompared (beats held) j)
 
 abbrev μ-loop : tie.MeasureT-loop
-μ-loop held raters out marks₀ j₀ marks j = ?
+μ-loop held raters out marks₀ j₀ marks j = raters - j
 
--- src/beaten.rt:97:5
 loop-holds : tie.Need-loop-holds Inv-loop μ-loop
-loop-holds c = ?
+unfolding allCompared
+loop-holds c = (omega arith, refl, refl)
 
--- src/beaten.rt:98:9
 compare-with-requires : tie.Need-compare-with-requires Inv-loop μ-loop
-compare-with-requires c κs = ?
+compare-with-requires c κs =
+    let l = c .before .before .before .loop in
+    (l .inv .1, fewer (c .before .before .before .before .before .pre .0) _ (omega (arith, c .before .before .loop-test .taken)))
 
--- src/beaten.rt:99:9
-add-j : tie.Need-add-j Inv-loop μ-loop
-add-j c = ?
-
--- src/beaten.rt:97:5
-loop-less : tie.Need-loop-less Inv-loop μ-loop
-loop-less c = ?
-
--- src/beaten.rt:97:5
 loop-again : tie.Need-loop-again Inv-loop μ-loop
-loop-again c = ?
+unfolding allCompared
+loop-again c =
+    let l = c .before .before .before .before .loop in
+    (
+      omega (arith, c .before .before .before .loop-test .taken),
+      c .compare-with .ensures .1,
+      rw (add-one (l .j), ← l .inv .2) (c .compare-with .ensures .0),
+    )
 
--- src/beaten.rt:101:5
 write-list-requires : tie.Need-write-list-requires Inv-loop μ-loop
-write-list-requires c κs = ?
+write-list-requires c κs =
+    let a = c .before .before .before .before .before in
+    (a .pre .0 .few, a .pre .1, c .before .before .before .loop .inv .1)
 
--- src/beaten.rt:89:1
-same-length : tie.Need-same-length Inv-loop μ-loop
-same-length c = ?
-
--- src/beaten.rt:89:1
 returns : tie.Need-returns Inv-loop μ-loop
-returns c = ?
+returns c =
+    let w = c .before .before .write-list .ensures in
+    let a = c .before .before .before .before .before .before .before .before .args in
+    let l = c .before .before .before .before .before .before .loop in
+    let e : l .j ≡ a .raters = omega (arith, c .before .before .before .before .before .loop-test .left, l .inv .0) in
+    let m : l .marks ≡ allCompared (beats (now (a .held))) (a .raters) = rw e at (l .inv .2) in
+    rw m at w
 
 pub list-unbeaten-spec : {M : Type 1} → statement M
 list-unbeaten-spec =
@@ -51,9 +58,9 @@ list-unbeaten-spec =
     μ-loop
     loop-holds
     compare-with-requires
-    add-j
-    loop-less
+    (λ c. search needs)
+    (λ c. search needs)
     loop-again
     write-list-requires
-    same-length
+    (λ c. search needs)
     returns)
