@@ -3,8 +3,8 @@ use Prim.Native.Nat.{ℕ, suc, _+_, _-_, _*_, _≤_, _<_, min, max}
 use mathlib.Core.Path.{_≡_, refl, sym, ap, _∙_}
 use mathlib.Core.List.{List, [], _∷_, _++_}
 use native.Mathlib.Omega.{arith}
-use lib.ListN.{length, getD, set, take, drop, length-take, length-drop, length-set}
-use lib.Seq.{paste, length-paste, take-paste, take-length, take-set-le, take-add, length-take-le, drop-at, getD-set-same, getD-set-other}
+use lib.ListN.{length, getD, set, take, drop, length-take, length-drop, length-set, take-append-drop}
+use lib.Seq.{paste, length-paste, take-paste, take-length, take-set-le, take-add, length-take-le, take-append-le, drop-append-le, take-at, drop-at, getD-set-same, getD-set-other}
 use Rattle.table.specs.Table.{Table, defaultsIn, survivorsIn}
 use Rattle.pooling.specs.Private.{blockWords, spanning}
 use Rattle.shortlist.specs.Private.{scaleSize, heldSize, heldOf, blocksHeld, Holds, totalsFrom, rangeOf}
@@ -86,3 +86,24 @@ module _ (w part : List ℕ) (from d s : ℕ) (long : length w ≡ 123) (ends : 
         defaults = second ∙ f;
         survivors = third ∙ g;
       }
+
+-- Where the numbers of rater q are stored anew, those of the raters before it stay.
+module _ (held new rest : List ℕ) (q : ℕ) (long : length held ≡ heldSize) (small : q < 16) (same : length new ≡ scaleSize) where
+  length-before : length (take (123 * q) held) ≡ 123 * q
+  length-before = length-take-le (123 * q) held (omega arith)
+
+  -- the numbers of rater r, of those that stand before
+  in-front : (r : ℕ) (l : List ℕ) → r < q → heldOf (take (123 * q) held ++ l) r ≡ take 123 (drop (123 * r) (take (123 * q) held))
+  in-front r l h =
+      let p = take (123 * q) held in
+      let n : length (drop (123 * r) p) ≡ 123 * q - 123 * r = rw (length-drop, length-before) refl in
+      ap (take 123) (drop-append-le (123 * r) p l (omega (arith, length-before))) ∙ take-append-le 123 (drop (123 * r) p) l (omega arith)
+
+  pub held-before : (r : ℕ) → r < q → heldOf (take (123 * q) held ++ (new ++ rest)) r ≡ heldOf held r
+  held-before r h =
+      in-front r (new ++ rest) h
+      ∙ sym (in-front r (drop (123 * q) held) h)
+      ∙ ap (λ (l : List ℕ). heldOf l r) (take-append-drop (123 * q) held)
+
+  pub held-new : heldOf (take (123 * q) held ++ (new ++ rest)) q ≡ new
+  held-new = ap (take 123) (drop-at (take (123 * q) held) (new ++ rest) (123 * q) length-before) ∙ take-at new rest 123 same

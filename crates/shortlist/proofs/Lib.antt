@@ -1,5 +1,7 @@
 pub mod Order
 pub mod Held
+pub mod Read
+pub mod Reading
 pub mod Numbers
 pub mod Top
 pub mod Listed

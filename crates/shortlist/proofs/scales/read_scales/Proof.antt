@@ -1,84 +1,98 @@
+-- `read_scales` meets its contract. The invariant is `Reading`.
+use Prim.Native.Nat.{ℕ, suc, _+_, _-_, _*_, _≤_, _<_}
+use mathlib.Core.Path.{_≡_, refl, sym, ap, _∙_}
+use native.Mathlib.Numerals.{add-one}
+use native.Mathlib.Omega.{arith}
+use borrow.Author.Needs.{needs}
+use denote.Ref.{now}
+use mathlib.Core.List.{List}
+use borrow.Rule.Slice.PartMut.{putMid, same-len-mid}
+use lib.ListN.{length, length-take, length-drop}
+use Rattle.book.specs.Layout.{raters, startOf}
+use Rattle.book.specs.Rows.{tableFrom, tableOfRater, tableFault}
+use Rattle.book.proofs.Stands.{Stands}
+use Rattle.book.proofs.Whole.{laid}
+use Rattle.shortlist.proofs.Reading.{Reading, none-read, ends, goes, all-read}
 use Rattle.shortlist.proofs.scales.read_scales.Statement.{statement}
 use Rattle.shortlist.proofs.scales.read_scales.Tie as tie
-use Rattle.shortlist.proofs.scales.read_scales.Reads as reads
-use Rattle.shortlist.proofs.scales.read_scales.Lts as lts
-use Rattle.book.proofs.raters_of.Reads as raters-of-reads
-use Rattle.book.proofs.start_of.Reads as start-of-reads
-use Rattle.shortlist.proofs.scales.read_scale.Reads as read-scale-reads
 
 abbrev Inv-loop : tie.InvT-loop
-Inv-loop book held₀ raters rater₀ held rater = ?
+Inv-loop book held₀ count rater₀ held rater = (count ≡ raters book) × Reading book held rater
 
 abbrev μ-loop : tie.MeasureT-loop
-μ-loop book held₀ raters rater₀ held rater = ?
+μ-loop book held₀ count rater₀ held rater = count - rater
 
--- src/scales.rt:103:9
 raters-of-requires : tie.Need-raters-of-requires Inv-loop μ-loop
-raters-of-requires c κs = ?
+raters-of-requires c κs = let l = laid _ (c .before .before .pre .0) in omega (arith, l .long)
 
--- src/scales.rt:105:5
 loop-holds : tie.Need-loop-holds Inv-loop μ-loop
-loop-holds c = ?
+loop-holds c =
+    let p = c .before .before .before .pre in
+    (c .raters-of .ensures .0, none-read _ _ (laid _ (p .0)) (p .1))
 
--- src/scales.rt:106:18
-mul-at : tie.Need-mul-at Inv-loop μ-loop
-mul-at c = ?
+-- A turn: the next rater stands in the book, and has room.
+module _ (c : tie.In-loop Inv-loop μ-loop) where
+  abbrev at : tie.At-loop Inv-loop μ-loop
+  at = c .before
 
--- src/scales.rt:107:19
-add-end : tie.Need-add-end Inv-loop μ-loop
-add-end c = ?
+  abbrev book : List ℕ
+  book = now (at .before .before .before .before .args .book)
 
--- src/scales.rt:108:9
-add-rater : tie.Need-add-rater Inv-loop μ-loop
-add-rater c = ?
+  more : at .loop .rater < raters book
+  more = omega (arith, at .loop .inv .0, c .loop-test .taken)
 
--- src/scales.rt:109:38
-start-of-requires : tie.Need-start-of-requires Inv-loop μ-loop
-start-of-requires c κs = ?
+  few : at .loop .rater < 16
+  few = omega (arith, more, at .loop .inv .1 .laid .few)
 
--- src/scales.rt:109:61
-mul-read-scale : tie.Need-mul-read-scale Inv-loop μ-loop
-mul-read-scale c = ?
+  stands : Stands book (suc (at .loop .rater))
+  stands = at .loop .inv .1 .laid .standing (suc (at .loop .rater)) (omega arith) more
 
--- src/scales.rt:109:61
-sub-read-scale : tie.Need-sub-read-scale Inv-loop μ-loop
-sub-read-scale c = ?
+starts : (c : tie.After-start-of Inv-loop μ-loop) → c .start-of .result ≡ startOf (book (c .before)) (suc (at (c .before) .loop .rater))
+starts c = c .start-of .ensures ∙ ap (λ (j : ℕ). startOf (book (c .before)) j) (add-one (at (c .before) .loop .rater))
 
--- src/scales.rt:109:61
-part-read-scale-start : tie.Need-part-read-scale-start Inv-loop μ-loop
-part-read-scale-start c = ?
-
--- src/scales.rt:109:61
-part-read-scale-end : tie.Need-part-read-scale-end Inv-loop μ-loop
-part-read-scale-end c = ?
-
--- src/scales.rt:109:13
 read-scale-requires : tie.Need-read-scale-requires Inv-loop μ-loop
-read-scale-requires c κs = ?
+read-scale-requires c κs =
+    let t = c .before .before in
+    let s = stands t in
+    let r = at t .loop .rater in
+    let k : 123 * r + 123 - 123 * r ≡ 123 = omega arith in
+    (rw (starts (c .before)) (s .inside, s .some, s .few), rw (k, length-take, length-drop) (omega (arith, few t, at t .loop .inv .1 .long)))
 
--- src/scales.rt:111:13
-same-length : tie.Need-same-length Inv-loop μ-loop
-same-length c = ?
+-- It is read.
+module _ (c : tie.After-read-scale Inv-loop μ-loop) where
+  abbrev turn : tie.In-loop Inv-loop μ-loop
+  turn = c .before .before .before
 
--- src/scales.rt:111:13
+  fault-is : c .read-scale .result ≡ tableFault (tableOfRater (book turn) (suc (at turn .loop .rater)))
+  fault-is = c .read-scale .ensures .0 ∙ ap (λ (s : ℕ). tableFault (tableFrom (book turn) s)) (starts (c .before .before))
+
+  kept : length (putMid (123 * at turn .loop .rater) (123 * at turn .loop .rater + 123 - 123 * at turn .loop .rater) (at turn .loop .held) (c .read-scale .last .1 .1 .0)) ≡ 1968
+  kept =
+      let r = at turn .loop .rater in
+      let k : 123 * r + 123 - 123 * r ≡ 123 = omega arith in
+      let long = at turn .loop .inv .1 .long in
+      let new = c .read-scale .ensures .1 .1 in
+      rw k (same-len-mid (123 * r) 123 (at turn .loop .held) (c .read-scale .last .1 .1 .0) (rw (length-take, length-drop) (omega (arith, few turn))) ∙ long)
+
 returns : tie.Need-returns Inv-loop μ-loop
-returns c = ?
+returns c =
+    let r = c .before .before .before in
+    let t = turn r in
+    (ends _ _ _ (at t .loop .inv .1) (more t) _ (fault-is r) (c .if1 .taken), (λ z. absurd (c .if1 .taken z), kept r))
 
--- src/scales.rt:105:5
-loop-less : tie.Need-loop-less Inv-loop μ-loop
-loop-less c = ?
-
--- src/scales.rt:105:5
 loop-again : tie.Need-loop-again Inv-loop μ-loop
-loop-again c = ?
+loop-again c =
+    let r = c .before .before .before in
+    let t = turn r in
+    let z = c .if1 .left in
+    (at t .loop .inv .0, rw (add-one (at t .loop .rater))
+    (goes _ _ _ (at t .loop .inv .1) (more t) (r .read-scale .last .1 .1 .0) _ (sym (fault-is r) ∙ z) (rw (starts (r .before .before)) at (r .read-scale .ensures .1 .0 z)) (kept r)))
 
--- src/scales.rt:96:1
-same-length-2 : tie.Need-same-length-2 Inv-loop μ-loop
-same-length-2 c = ?
-
--- src/scales.rt:96:1
 returns-2 : tie.Need-returns-2 Inv-loop μ-loop
-returns-2 c = ?
+returns-2 c =
+    let l = c .before .loop in
+    let a = all-read _ _ _ (l .inv .1) (omega (arith, l .inv .0, c .loop-test .left)) in
+    (a .0, (λ z. a .1, l .inv .1 .long))
 
 pub read-scales-spec : {M : Type 1} → statement M
 read-scales-spec =
@@ -88,18 +102,18 @@ read-scales-spec =
     μ-loop
     raters-of-requires
     loop-holds
-    mul-at
-    add-end
-    add-rater
-    start-of-requires
-    mul-read-scale
-    sub-read-scale
-    part-read-scale-start
-    part-read-scale-end
+    (λ c. let k = few c in omega arith)
+    (λ c. let k = few c in omega arith)
+    (λ c. let k = few c in omega arith)
+    (λ c κs. let s = stands c in (omega arith, omega (arith, s .head)))
+    (λ c. let k = few (c .before) in omega arith)
+    (λ c. omega arith)
+    (λ c. omega arith)
+    (λ c. let k = few (c .before) in omega (arith, c .before .before .loop .inv .1 .long))
     read-scale-requires
-    same-length
+    (λ c. kept (c .before .before .before) ∙ sym (at (turn (c .before .before .before)) .before .before .before .before .pre .1))
     returns
-    loop-less
+    (λ c. omega arith)
     loop-again
-    same-length-2
+    (λ c. c .before .loop .inv .1 .long ∙ sym (c .before .before .before .before .before .pre .1))
     returns-2)
