@@ -10,5 +10,7 @@ pub mod Totals
 pub mod Pooled
 pub mod Accepted
 pub mod Books
+pub mod Answered
+pub mod Ended
 pub mod Writing
 pub mod Compared

@@ -148,6 +148,9 @@ module _ (n : ℕ) (beats : ℕ → ℕ → Bool) (few : n ≤ 16) where
           | no gt ↦ all .settled k j (omega arith) p zk zj .1 b
         ]
 
+    pub marks-long : length (allCompared beats n) ≡ 16
+    marks-long = all .long
+
     pub unmarked-unbeaten : (k : ℕ) → k < n → (getD (allCompared beats n) k 0 ≡ 0) ↔ ((h : ℕ) → h < n → T (beats h k) → ⊥)
     unmarked-unbeaten k inside =
         let t = top-of n beats order k inside n (omega arith) in (

@@ -92,7 +92,7 @@ not-zero zero h = absurd h
 not-zero (suc n) h = omega arith
 
 -- All four.
-pub ranges-fault : (t : Table) (ts : List Table) → defaultsIn t ≤ largest → survivorsIn t ≤ largest
+ranges-fault : (t : Table) (ts : List Table) → defaultsIn t ≤ largest → survivorsIn t ≤ largest
     → rangesFault (rangeOf (map defaultsIn (t ∷ ts))) (rangeOf (map survivorsIn (t ∷ ts))) ≡ totalsFault (t ∷ ts)
 unfolding rangesFault
 ranges-fault t ts few-d few-s =
@@ -113,3 +113,8 @@ ranges-fault t ts few-d few-s =
     (λ e. go (sym one) (go (sym two) (go (sym three) (all-same survivorsIn t ts (eqb→eq _ _ e)))))
     (λ e. go (sym one) (go (sym two) (go (sym three) (some-differ survivorsIn t ts few-s (not-equal _ _ e))))))
     (λ e. go (sym one) (go (sym two) (stop _ (some-differ defaultsIn t ts few-d (not-equal _ _ e)) (λ k. omega arith))))))
+
+pub totals-fault : (ts : List Table) → 1 ≤ length ts → Every (λ t. (defaultsIn t ≤ largest) × (survivorsIn t ≤ largest)) ts
+    → rangesFault (rangeOf (map defaultsIn ts)) (rangeOf (map survivorsIn ts)) ≡ totalsFault ts
+totals-fault [] some few = absurd (omega arith)
+totals-fault (t ∷ ts) some few = ranges-fault t ts (few .0 .0) (few .0 .1)
