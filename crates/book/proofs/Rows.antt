@@ -77,7 +77,7 @@ rows-later (g ∷ t) = rw (le-leb 0 (g .announced) (omega arith))
 
 -- The code tests the sum of the rows as 32 bits hold them, and counts no occupied grades: the faults after the last row are the same.
 
-pub all-empty : (t : Table) → obligorsIn t < 1 → length (occupied t) < 1
+all-empty : (t : Table) → obligorsIn t < 1 → length (occupied t) < 1
 all-empty t h = elim (decLe 1 (length (occupied t))) [ yes o ↦ absurd (omega (arith, someone t o)) | no n ↦ omega arith ]
 
 pub sum-fault : (t : Table) (sum : ℕ) → sum ≡ obligorsIn (cappedTable t) → fault (sumChecks sum) ≡ fault (totalChecks t)

@@ -13,7 +13,6 @@ ghost use Rattle.measures.specs.Brier.{brierOf};
 ghost use Rattle.spread.specs.Spread.{IsSpread};
 ghost use Rattle.calls.specs.Answers.{answer, leaves, Limited, cheapestSays, measuresSays, brierSays, spreadSays, totalsSays};
 ghost use Rattle.calls.specs.Calls.{emptyFault, questionFault, cheapest, measures, brier, spread, fillFault, pool, changeFault, load, clear};
-ghost use Rattle.calls.specs.Private.{Fillable};
 
 mod pair;
 
@@ -76,19 +75,14 @@ pub enum PairAnswer {
 
 // Fills an empty place with the table of a rater of a book; 0, or the refusal number.
 pub fn load(place: &mut [u32], book: &[u8], rater: u32) -> u32
-    requires { ⌜ Fillable (now place) ⌝ }
+    requires { ⌜ length (now place) ≡ placeSize ⌝ }
     ensures { λ r. ⌜ r ≡ changeFault (placeIn (now (place .entry))) (load (now (book .entry)) rater) ⌝ }
     ensures { λ r. ⌜ now (place .exit) ≡ leaves r (now (place .entry)) (wordsOf (placeOf (tableOfRater (now (book .entry)) rater))) ⌝ }
 {
     if is_loaded(place) {
         return PLACE_LOADED;
     }
-    let fault = book::read_fault(book, rater);
-    if fault != 0 {
-        return fault;
-    }
-    book::store(book, rater, place);
-    0
+    book::read(book, rater, place)
 }
 
 // Makes a loaded place as it is on a fresh desk; 0, or the refusal number.
