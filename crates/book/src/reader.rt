@@ -31,9 +31,9 @@ use table::GRADE_COUNT;
 use table::LOADED;
 use table::OBLIGORS;
 use table::Obligors;
-use table::PLACE;
 use table::PPM;
 use table::Survivors;
+use table::wipe;
 
 // The first column as obligors, by its kind.
 fn obligors_by(kind: usize, column: u32, defaults: u32) -> Obligors
@@ -131,29 +131,25 @@ pub fn read_table(b: &[u8], start: usize, place: &mut [u32]) -> u32
     0
 }
 
-// Fills a place with the table that starts at `start`; 0, or the number of the first fault, which leaves the place as it was.
+// Fills an empty place with the table that starts at `start`; 0, or the number of the first fault, which leaves the place as it was.
 fn fill(b: &[u8], start: usize, place: &mut [u32]) -> u32
     requires inside { ⌜ (endOf (now b) start ≤ length (now b)) × (gradesAt (now b) start ≤ 40) ⌝ }
-    requires long { ⌜ length (now place) ≡ placeSize ⌝ }
+    requires empty { ⌜ now place ≡ wordsOf fresh ⌝ }
     ensures { λ r. ⌜ r ≡ tableFault (tableFrom (now (b .entry)) start) ⌝ }
     ensures { λ r. ⌜ now (place .exit) ≡ wordsAfter r (tableFrom (now (b .entry)) start) (now (place .entry)) ⌝ }
 {
-    let mut words = [0u32; PLACE];
-    let fault = read_table(b, start, &mut words);
-    if fault != 0 {
-        return fault;
+    let fault = read_table(b, start, place);
+    if fault == 0 {
+        return 0;
     }
-    let mut i: usize = 0;
-    while i < PLACE {
-        place[i] = words[i];
-        i += 1;
-    }
-    0
+    // The rows before the fault are in the place.
+    wipe(place);
+    fault
 }
 
-// Fills a place with the table of a rater; 0, or the number of the first fault, which leaves the place as it was.
+// Fills an empty place with the table of a rater; 0, or the number of the first fault, which leaves the place as it was.
 pub fn read(book: &[u8], rater: u32, place: &mut [u32]) -> u32
-    requires { ⌜ length (now place) ≡ placeSize ⌝ }
+    requires { ⌜ now place ≡ wordsOf fresh ⌝ }
     ensures { λ r. ⌜ r ≡ readFault (now (book .entry)) rater ⌝ }
     ensures { λ r. ⌜ now (place .exit) ≡ wordsAfter r (tableOfRater (now (book .entry)) rater) (now (place .entry)) ⌝ }
 {

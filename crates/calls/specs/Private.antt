@@ -1,13 +1,16 @@
 -- Serves contracts of functions inside the library only: what is promised does not rest on it.
--- The checks that both comparisons begin with, and a refusal that is handed on.
+-- What load requires of a lent place; the checks that both comparisons begin with, and a refusal that is handed on.
 use Prim.Native.Nat.{ℕ}
 use mathlib.Core.Path.{_≡_}
+use mathlib.Core.Bool.{false}
 use mathlib.Core.List.{List, [], _∷_}
+use lib.ListN.{length}
 use Rattle.table.specs.declared.Place.{Place}
 use Rattle.table.specs.declared.Totals.{Totals}
 use Rattle.table.specs.Table.{Table, defaultsIn, survivorsIn}
 use Rattle.table.specs.Counts.{totalsOf}
-use Rattle.table.specs.Place.{tableOf}
+use Rattle.table.specs.Place.{fresh, tableOf}
+use Rattle.table.specs.Words.{placeSize, wordsOf, placeIn}
 use Rattle.book.specs.Checks.{Check, at-most, fault, firstFault}
 use Rattle.calls.specs.Answers.{Answer, accepted, refused}
 use Rattle.calls.specs.Calls.{emptyFault}
@@ -33,3 +36,8 @@ pairTotals p q = (totalsOf (tableOf p), totalsOf (tableOf q))
 abbrev pub SameRefusal : {A B : Type 0} → Answer A → Answer B → Type 0
 SameRefusal (accepted x) r = Unit {0}
 SameRefusal (refused n) r = r ≡ refused n
+
+-- What load requires of a lent place: all words are there, and where it is not loaded they are those of an empty one.
+pub record Fillable (w : List ℕ) : Type 0 where
+  pub long : length w ≡ placeSize
+  pub unused : placeIn w .loaded ≡ false → w ≡ wordsOf fresh

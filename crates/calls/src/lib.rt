@@ -13,6 +13,7 @@ ghost use Rattle.measures.specs.Brier.{brierOf};
 ghost use Rattle.spread.specs.Spread.{IsSpread};
 ghost use Rattle.calls.specs.Answers.{answer, leaves, Limited, cheapestSays, measuresSays, brierSays, spreadSays, totalsSays};
 ghost use Rattle.calls.specs.Calls.{emptyFault, questionFault, cheapest, measures, brier, spread, fillFault, pool, changeFault, load, clear};
+ghost use Rattle.calls.specs.Private.{Fillable};
 
 mod pair;
 
@@ -31,10 +32,10 @@ use refusals::PLACE_EMPTY;
 use refusals::PLACE_LOADED;
 use refusals::SHORT_BUFFER;
 use spread::Spread;
-use table::PLACE;
 use table::Totals;
 use table::grades_of;
 use table::is_loaded;
+use table::wipe;
 
 pub enum CheapestAnswer {
     Cheapest(CheapestCutoff),
@@ -75,7 +76,7 @@ pub enum PairAnswer {
 
 // Fills an empty place with the table of a rater of a book; 0, or the refusal number.
 pub fn load(place: &mut [u32], book: &[u8], rater: u32) -> u32
-    requires { ⌜ length (now place) ≡ placeSize ⌝ }
+    requires { ⌜ Fillable (now place) ⌝ }
     ensures { λ r. ⌜ r ≡ changeFault (placeIn (now (place .entry))) (load (now (book .entry)) rater) ⌝ }
     ensures { λ r. ⌜ now (place .exit) ≡ leaves r (now (place .entry)) (wordsOf (placeOf (tableOfRater (now (book .entry)) rater))) ⌝ }
 {
@@ -94,11 +95,7 @@ pub fn clear(place: &mut [u32]) -> u32
     if !is_loaded(place) {
         return PLACE_EMPTY;
     }
-    let mut i: usize = 0;
-    while i < PLACE {
-        place[i] = 0;
-        i += 1;
-    }
+    wipe(place);
     0
 }
 

@@ -11,6 +11,7 @@ use Rattle.table.proofs.Words.{Long, long-place, words-length, place-back}
 use Rattle.book.proofs.Checks.{first-none}
 use Rattle.calls.specs.Answers.{leaves}
 use Rattle.calls.specs.Calls.{Change, load, clear, changedTo, changeFault}
+use Rattle.calls.specs.Private.{Fillable}
 use Rattle.desk.specs.declared.Desk.{Desk}
 use Rattle.desk.specs.Desk.{placeAt, withPlace}
 use Rattle.desk.specs.Calls.{placeFault, change, numberOf, after}
@@ -24,6 +25,13 @@ length-marked b e = ap length e ∙ words-length (marked b) (long-marked b)
 
 place-marked : {w : List ℕ} (b : Bool) → w ≡ wordsOf (marked b) → placeIn w ≡ marked b
 place-marked b e = ap (λ (x : List ℕ). placeIn x) e ∙ place-back (marked b) (long-marked b)
+
+pub fillable-marked : {w : List ℕ} (b : Bool) → w ≡ wordsOf (marked b) → Fillable w
+fillable-marked b e =
+    record {
+      long = length-marked b e;
+      unused = λ h. e ∙ ap (λ (x : Bool). wordsOf (marked x)) (sym (ap (λ (p : Place). p .loaded) (place-marked b e)) ∙ h);
+    }
 
 same-fault : (p : Place) (c : Change) → changeFault (marked (p .loaded)) c ≡ changeFault p c
 unfolding changeFault

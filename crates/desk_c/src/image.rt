@@ -7,6 +7,7 @@ ghost use Rattle.table.specs.Words.{placeSize, placeIn};
 ghost use Rattle.book.specs.Rows.{tableOfRater};
 ghost use Rattle.calls.specs.Answers.{leaves};
 ghost use Rattle.calls.specs.Calls.{changeFault, load, clear};
+ghost use Rattle.calls.specs.Private.{Fillable};
 ghost use Rattle.desk_c.specs.Image.{wordsFrom};
 ghost use Rattle.desk_c.specs.Private.{deskSize, startOf, withWords};
 use table::PLACE;
@@ -32,7 +33,7 @@ pub fn words_at(desk: &[u32], at: usize) -> &[u32]
 
 // Load, into the place that starts at `at`.
 pub fn load_at(desk: &mut [u32], at: usize, book: &[u8], rater: u32) -> u32
-    requires { ⌜ at + placeSize ≤ length (now desk) ⌝ }
+    requires { ⌜ (at + placeSize ≤ length (now desk)) × Fillable (wordsFrom (now desk) at) ⌝ }
     ensures { λ r. ⌜ r ≡ changeFault (placeIn (wordsFrom (now (desk .entry)) at)) (load (now (book .entry)) rater) ⌝ }
     ensures { λ r. let w = now (desk .entry) in ⌜ now (desk .exit) ≡ leaves r w (withWords w at (placeOf (tableOfRater (now (book .entry)) rater))) ⌝ }
 {

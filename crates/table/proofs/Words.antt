@@ -10,10 +10,10 @@ use lib.ListN.{length, getD, set, take, drop, replicate, length-append}
 use lib.Seq.{paste, set-at, take-all, take-at, drop-at, drop-drop, getD-take, getD-drop}
 use Rattle.table.specs.declared.Place.{Place}
 use Rattle.table.specs.Table.{Counted, Rated, Sound}
-use Rattle.table.specs.Place.{gradeAt, tableOf, placeOf, SoundPlace, empty, holds}
+use Rattle.table.specs.Place.{fresh, gradeAt, tableOf, placeOf, SoundPlace, empty, holds}
 use Rattle.table.specs.Words.{placeSize, wordsOf, columnIn, placeIn, HoldsTable, IsPlace}
 use Rattle.table.proofs.Pastes.{paste-behind}
-use Rattle.table.proofs.Placed.{length-column, placed-grades, sound-placed}
+use Rattle.table.proofs.Placed.{length-column, placed-grades, placed-loaded, sound-placed}
 use Rattle.table.proofs.Suffix.{suffix, suffix-down, every-suffix, length-grades, Small, small}
 
 -- Places that calls left.
@@ -37,6 +37,10 @@ long-place (holds t s) =
       defaults = length-column (λ g. g .defaults) t (s .few);
       announced = length-column (λ g. g .announced) t (s .few);
     }
+
+pub not-loaded : {p : Place} → SoundPlace p → p .loaded ≡ false → p ≡ fresh
+not-loaded empty h = refl
+not-loaded (holds t s) h = let z : _≡_ {A = ℕ} 0 1 = cc (rw (placed-loaded t) at h) in absurd (omega arith)
 
 pub sound-loaded : {p : Place} → SoundPlace p → p .loaded ≡ true → Sound (tableOf p)
 sound-loaded empty h = let z : _≡_ {A = ℕ} 0 1 = cc in absurd (omega arith)
@@ -120,10 +124,13 @@ is-place {p} s = let e = place-back p (long-place s) in record { sound = rw e s;
 pub long-words : {w : List ℕ} → IsPlace w → length w ≡ placeSize
 long-words i = rw (i .exact) (words-length _ (long-place (i .sound)))
 
--- A place that calls left and that is loaded holds a table.
+-- A place that calls left and that is loaded holds a table; one that is not holds nothing.
 
 pub holds-table : {w : List ℕ} → IsPlace w → placeIn w .loaded ≡ true → HoldsTable w
 holds-table i h = record { long = long-words i; sound = sound-loaded (i .sound) h }
+
+pub holds-nothing : {w : List ℕ} → IsPlace w → placeIn w .loaded ≡ false → w ≡ wordsOf fresh
+holds-nothing i h = i .exact ∙ ap wordsOf (not-loaded (i .sound) h)
 
 -- What a turn of a loop knows that goes from grade i to the next better one: where its counts stand, and the grades passed.
 pub record Turn (w : List ℕ) (i : ℕ) : Type 0 where

@@ -30,6 +30,11 @@ returns : tie.Need-returns
 unfolding changeFault
 returns c = (stop _ (loaded _ _ (c .before .is-loaded .ensures) (c .if1 .taken)) (λ z. omega arith), refl)
 
+read-requires : tie.Need-read-requires
+read-requires c κs =
+    let e = c .before in
+    e .before .before .before .before .before .pre .unused (sym (e .before .is-loaded .ensures) ∙ e .if1 .left)
+
 returns-2 : tie.Need-returns-2
 unfolding changeFault
 returns-2 c =
@@ -46,6 +51,6 @@ load-spec =
     (λ c κs. search needs)
     (λ c. search needs)
     returns
-    (λ c κs. search needs)
+    read-requires
     (λ c. search needs)
     returns-2)

@@ -8,7 +8,7 @@ use Rattle.calls.proofs.Answered.{left-alone}
 use Rattle.desk.proofs.Number.{there, missing}
 use Rattle.desk_c.specs.Image.{imageOf}
 use Rattle.desk_c.proofs.Images.{image-length}
-use Rattle.desk_c.proofs.Changed.{image-number, image-changed}
+use Rattle.desk_c.proofs.Changed.{fillable, image-number, image-changed}
 use Rattle.desk_c.proofs.desk_load.Statement.{statement}
 use Rattle.desk_c.proofs.desk_load.Tie as tie
 
@@ -36,5 +36,5 @@ desk-load-spec =
     (λ c κs. search needs)
     returns
     (λ c κs. search needs)
-    (λ c κs. omega (arith, c .start-of .ensures .1, image-length (c .before .before .before .before .before .pre)))
+    (λ c κs. (omega (arith, c .start-of .ensures .1, image-length (c .before .before .before .before .before .pre)), fillable (c .before .before .before .before .before .pre) (c .before .before .before .before .before .args .place) _ (c .start-of .ensures .0)))
     returns-2)

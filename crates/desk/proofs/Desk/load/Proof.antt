@@ -9,7 +9,7 @@ use Rattle.calls.specs.Calls.{load}
 use Rattle.calls.proofs.Answered.{left-alone}
 use Rattle.desk.specs.Desk.{placeAt}
 use Rattle.desk.proofs.Number.{there, missing}
-use Rattle.desk.proofs.Changed.{length-marked, change-number, change-desk}
+use Rattle.desk.proofs.Changed.{length-marked, fillable-marked, change-number, change-desk}
 use Rattle.desk.proofs.Desk.load.Statement.{statement}
 use Rattle.desk.proofs.Desk.load.Tie as tie
 
@@ -39,7 +39,7 @@ load-spec =
     (λ c κs. length-marked (placeAt (c .before .before .before .before .before .args .self) (c .before .before .before .before .before .args .place) .loaded) (c .before .before .before .mark .ensures))
     returns
     (λ c. search needs)
-    (λ c κs. length-marked (placeAt (c .before .before .before .before .before .args .self) (c .before .before .before .before .before .args .place) .loaded) (c .before .before .before .mark .ensures))
+    (λ c κs. fillable-marked (placeAt (c .before .before .before .before .before .args .self) (c .before .before .before .before .before .args .place) .loaded) (c .before .before .before .mark .ensures))
     (λ c. search needs)
     (λ c κs. search needs)
     returns-2)

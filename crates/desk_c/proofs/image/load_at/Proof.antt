@@ -1,6 +1,6 @@
 -- `load_at` meets its contract.
 use Prim.Native.Nat.{ℕ}
-use mathlib.Core.Path.{_∙_, ap}
+use mathlib.Core.Path.{sym, _∙_, ap, subst}
 use mathlib.Core.List.{List}
 use borrow.Author.Needs.{needs}
 use borrow.Rule.Slice.PartMut.{putMid}
@@ -9,6 +9,7 @@ use lib.ListN.{take, drop}
 use Rattle.table.specs.Words.{wordsOf, placeIn}
 use Rattle.calls.specs.Answers.{leaves}
 use Rattle.calls.specs.Calls.{load, changedTo, changeFault}
+use Rattle.calls.specs.Private.{Fillable}
 use Rattle.desk_c.proofs.Parts.{span, part-changed}
 use Rattle.desk_c.proofs.image.load_at.Statement.{statement}
 use Rattle.desk_c.proofs.image.load_at.Tie as tie
@@ -33,6 +34,6 @@ load-at-spec =
     (λ c. search needs)
     (λ c. search needs)
     (λ c. search needs)
-    (λ c κs. search needs)
+    (λ c κs. subst (λ (n : ℕ). Fillable (take n (drop (c .before .before .before .args .at) (now (c .before .before .before .args .desk))))) (sym (span (c .before .before .before .args .at))) (c .before .before .before .pre .1))
     (λ c. search needs)
     returns)
