@@ -48,12 +48,12 @@ pub capped-more : (t u : Table) → cappedTable (t ++ u) ≡ cappedTable t ++ ca
 capped-more [] u = refl
 capped-more (g ∷ t) u = ap (λ (l : Table). cappedGrade g ∷ l) (capped-more t u)
 
-pub capped-le : (t : Table) → obligorsIn (cappedTable t) ≤ obligorsIn t
+capped-le : (t : Table) → obligorsIn (cappedTable t) ≤ obligorsIn t
 unfolding obligorsIn
 capped-le [] = omega arith
 capped-le (g ∷ t) = omega (arith, capped-le t)
 
-pub capped-exact : (t : Table) → obligorsIn (cappedTable t) ≤ 1_000_000 → cappedTable t ≡ t
+capped-exact : (t : Table) → obligorsIn (cappedTable t) ≤ 1_000_000 → cappedTable t ≡ t
 unfolding obligorsIn
 capped-exact [] h = refl
 capped-exact (g ∷ t) h =
