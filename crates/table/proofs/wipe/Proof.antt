@@ -1,9 +1,8 @@
 -- `wipe` meets its contract. The invariant: the first i words are 0.
 use Prim.Native.Nat.{ℕ, suc, _+_, _-_, _≤_}
 use mathlib.Core.Path.{_≡_, sym, ap, _∙_}
-use mathlib.Core.List.{[]}
+use mathlib.Core.List.{List, []}
 use native.Mathlib.Omega.{arith}
-use borrow.Author.Needs.{needs}
 use denote.Ref.{now}
 use lib.ListN.{length, set, drop, replicate, length-set, drop-of-length-le}
 use lib.Seq.{paste, paste-zero, paste-suc}
@@ -19,14 +18,13 @@ abbrev μ-loop : tie.MeasureT-loop
 
 loop-again : tie.Need-loop-again Inv-loop μ-loop
 loop-again c =
-    let a = c .before .before in
+    let w = now (c .before .before .args .place) in
     let l = c .before .loop in
+    let zeros : List ℕ = replicate 122 0 in
     let e : l .i + 1 ≡ suc (l .i) = omega arith in
-    let z : 0 + l .i ≡ l .i = omega arith in (
-      rw (e, l .inv .0) (ap (λ (k : ℕ). set (paste (now (a .args .place)) 0 (replicate 122 0) (l .i)) k 0) (sym z) ∙ rw (zeros-at 122 (l .i)) at (paste-suc (now (a .args .place)) 0 (replicate 122 0) (l .i) 0 (omega arith) (omega arith))),
-      rw length-set (l .inv .1),
-      omega arith,
-    )
+    let z : 0 + l .i ≡ l .i = omega arith in
+    let one = rw (zeros-at 122 (l .i)) at (paste-suc w 0 zeros (l .i) 0 (omega arith) (omega arith)) in
+    (rw (e, l .inv .0) (ap (λ (k : ℕ). set (paste w 0 zeros (l .i)) k 0) (sym z) ∙ one), rw length-set (l .inv .1), omega arith)
 
 returns : tie.Need-returns Inv-loop μ-loop
 returns c =
