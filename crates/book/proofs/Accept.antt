@@ -18,11 +18,11 @@ use Rattle.book.proofs.Stands.{stands, Stands}
 use Rattle.book.proofs.Faultless.{faultless-sound, sound-faultless}
 
 -- what no fault of any check means
-pub record Checked (b : List ℕ) (j : ℕ) : Type 0 where
+record Checked (b : List ℕ) (j : ℕ) : Type 0 where
   pub standing : Stands b j
   pub table : tableFault (tableOfRater b j) ≡ 0
 
-pub checked : (b : List ℕ) (j : ℕ) → readFault b j ≡ 0 → Checked b j
+checked : (b : List ℕ) (j : ℕ) → readFault b j ≡ 0 → Checked b j
 unfolding readFault raterChecks
 checked b j e =
     let h = held-first _ _ e in
@@ -32,7 +32,7 @@ checked b j e =
     record { standing = stands b j (h .0) (c .0) (c .1 .0) (t .0); table = t .1 }
 
 -- A table that is read without a fault is sound.
-pub sound-read : (b : List ℕ) (j : ℕ) → readFault b j ≡ 0 → Sound (tableOfRater b j)
+sound-read : (b : List ℕ) (j : ℕ) → readFault b j ≡ 0 → Sound (tableOfRater b j)
 sound-read b j e =
     let c = checked b j e in
     let s = c .standing in

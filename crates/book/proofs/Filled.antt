@@ -9,7 +9,7 @@ use Rattle.table.specs.Table.{Table, Grade}
 use Rattle.table.specs.Place.{fresh, column, placeOf}
 use Rattle.table.specs.Words.{wordsOf}
 use Rattle.table.proofs.Placed.{length-column}
-use Rattle.book.specs.Private.{stored}
+use Rattle.book.specs.Private.{stored, wordsAfter}
 
 -- Columns.
 
@@ -115,3 +115,8 @@ module _ (t : Table) (few : length t ≤ 40) where
       ∙ set-at (all ++ (n ∷ [])) 0 [] 1 121 next
       ∙ append-assoc all (n ∷ []) (1 ∷ [])
       ∙ rw e refl
+
+-- A fault leaves the words as they were.
+pub kept : (n : ℕ) (t : Table) (w : List ℕ) → (n ≡ 0 → ⊥) → w ≡ wordsAfter n t w
+kept zero t w k = absurd (k refl)
+kept (suc n) t w k = refl

@@ -48,12 +48,12 @@ pub capped-more : (t u : Table) → cappedTable (t ++ u) ≡ cappedTable t ++ ca
 capped-more [] u = refl
 capped-more (g ∷ t) u = ap (λ (l : Table). cappedGrade g ∷ l) (capped-more t u)
 
-pub capped-le : (t : Table) → obligorsIn (cappedTable t) ≤ obligorsIn t
+capped-le : (t : Table) → obligorsIn (cappedTable t) ≤ obligorsIn t
 unfolding obligorsIn
 capped-le [] = omega arith
 capped-le (g ∷ t) = omega (arith, capped-le t)
 
-pub capped-exact : (t : Table) → obligorsIn (cappedTable t) ≤ 1_000_000 → cappedTable t ≡ t
+capped-exact : (t : Table) → obligorsIn (cappedTable t) ≤ 1_000_000 → cappedTable t ≡ t
 unfolding obligorsIn
 capped-exact [] h = refl
 capped-exact (g ∷ t) h =
@@ -77,7 +77,7 @@ rows-later (g ∷ t) = rw (le-leb 0 (g .announced) (omega arith))
 
 -- The code tests the sum of the rows as 32 bits hold them, and counts no occupied grades: the faults after the last row are the same.
 
-pub all-empty : (t : Table) → obligorsIn t < 1 → length (occupied t) < 1
+all-empty : (t : Table) → obligorsIn t < 1 → length (occupied t) < 1
 all-empty t h = elim (decLe 1 (length (occupied t))) [ yes o ↦ absurd (omega (arith, someone t o)) | no n ↦ omega arith ]
 
 pub sum-fault : (t : Table) (sum : ℕ) → sum ≡ obligorsIn (cappedTable t) → fault (sumChecks sum) ≡ fault (totalChecks t)

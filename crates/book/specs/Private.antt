@@ -1,13 +1,14 @@
 -- Serves contracts of functions inside the library only: what is promised does not rest on it.
 -- Bytes, rows and places as the code of this crate holds them.
-use Prim.Native.Nat.{ℕ, _+_, _*_, _≤_}
+use Prim.Native.Nat.{ℕ, zero, suc, _+_, _*_, _≤_}
 use mathlib.Core.Path.{_≡_}
 use mathlib.Core.List.{List, [], _∷_, _++_}
 use lib.ListN.{length}
 use lib.Seq.{sets}
 use Rattle.table.specs.Table.{Table, Grade}
 use Rattle.table.specs.Counts.{capped}
-use Rattle.table.specs.Words.{placeSize, placeIn}
+use Rattle.table.specs.Place.{placeOf}
+use Rattle.table.specs.Words.{placeSize, wordsOf, placeIn}
 use Rattle.book.specs.Bytes.{twoBytes}
 use Rattle.book.specs.Checks.{Check, at-most}
 use Rattle.book.specs.Writing.{tablesOf}
@@ -31,6 +32,11 @@ cappedGrade g = record { obligors = capped (g .obligors); defaults = g .defaults
 -- the checks after the last row as the code makes them: by the sum of the obligors alone
 abbrev pub sumChecks : ℕ → List Check
 sumChecks n = at-most 1 n 9 ∷ at-most n 1_000_000 11 ∷ []
+
+-- the words w of a place after a reading of the table t with the fault n
+abbrev pub wordsAfter : ℕ → Table → List ℕ → List ℕ
+wordsAfter zero t w = wordsOf (placeOf t)
+wordsAfter (suc n) t w = w
 
 -- What a write requires of a lent place: every place that calls left is so.
 pub record Writable (w : List ℕ) : Type 0 where

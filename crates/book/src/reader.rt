@@ -9,7 +9,7 @@ ghost use Rattle.book.specs.Checks.{fault};
 ghost use Rattle.book.specs.Layout.{gradesAt, endOf};
 ghost use Rattle.book.specs.Rows.{obligorsBy, gradeIn, tableFrom, tableOfRater, laterChecks, tableFault};
 ghost use Rattle.book.specs.Reading.{readFault};
-ghost use Rattle.book.specs.Private.{gradeOf, cappedGrade, sumChecks};
+ghost use Rattle.book.specs.Private.{gradeOf, cappedGrade, sumChecks, wordsAfter};
 use crate::Row;
 use crate::bytes::byte_at;
 use crate::bytes::four_at;
@@ -33,6 +33,7 @@ use table::OBLIGORS;
 use table::Obligors;
 use table::PPM;
 use table::Survivors;
+use table::wipe;
 
 // The first column as obligors, by its kind.
 fn obligors_by(kind: usize, column: u32, defaults: u32) -> Obligors
@@ -75,39 +76,6 @@ fn row_fault(r: Row, before: u32) -> u32
         return FALLING_RATE;
     }
     0
-}
-
-// 0, or the number of the first fault of the table that starts at `start`: of its rows, one by one, and then of their total.
-pub fn rows_fault(b: &[u8], start: usize) -> u32
-    requires { ⌜ (endOf (now b) start ≤ length (now b)) × (gradesAt (now b) start ≤ 40) ⌝ }
-    ensures { λ r. ⌜ r ≡ tableFault (tableFrom (now (b .entry)) start) ⌝ }
-{
-    let grades = byte_at(b, start);
-    let kind = byte_at(b, start + 1);
-    let mut total: u64 = 0;
-    // The first row has none before it, and no rate is below 0.
-    let mut before: u32 = 0;
-    let mut at = start + TABLE_HEAD;
-    let mut i: usize = 0;
-    while i < grades {
-        let row = row_at(b, kind, at);
-        let n = row_fault(row, before);
-        if n != 0 {
-            return n;
-        }
-        total += row.obligors.0 as u64;
-        before = row.announced;
-        at += ROW;
-        i += 1;
-    }
-    if total < 1 {
-        return NO_OBLIGORS;
-    }
-    if total <= OBLIGORS as u64 {
-        0
-    } else {
-        MANY_OBLIGORS
-    }
 }
 
 // 0, or the number of the first fault of a table whose rows have none and sum to this many obligors.
@@ -163,9 +131,27 @@ pub fn read_table(b: &[u8], start: usize, place: &mut [u32]) -> u32
     0
 }
 
-// 0, or the number of the first fault that a load of this rater's table finds.
-pub fn read_fault(book: &[u8], rater: u32) -> u32
+// Fills an empty place with the table that starts at `start`; 0, or the number of the first fault, which leaves the place as it was.
+fn fill(b: &[u8], start: usize, place: &mut [u32]) -> u32
+    requires inside { ⌜ (endOf (now b) start ≤ length (now b)) × (gradesAt (now b) start ≤ 40) ⌝ }
+    requires empty { ⌜ now place ≡ wordsOf fresh ⌝ }
+    ensures { λ r. ⌜ r ≡ tableFault (tableFrom (now (b .entry)) start) ⌝ }
+    ensures { λ r. ⌜ now (place .exit) ≡ wordsAfter r (tableFrom (now (b .entry)) start) (now (place .entry)) ⌝ }
+{
+    let fault = read_table(b, start, place);
+    if fault == 0 {
+        return 0;
+    }
+    // The rows before the fault are in the place.
+    wipe(place);
+    fault
+}
+
+// Fills an empty place with the table of a rater; 0, or the number of the first fault, which leaves the place as it was.
+pub fn read(book: &[u8], rater: u32, place: &mut [u32]) -> u32
+    requires { ⌜ now place ≡ wordsOf fresh ⌝ }
     ensures { λ r. ⌜ r ≡ readFault (now (book .entry)) rater ⌝ }
+    ensures { λ r. ⌜ now (place .exit) ≡ wordsAfter r (tableOfRater (now (book .entry)) rater) (now (place .entry)) ⌝ }
 {
     let head = head_fault(book);
     if head != 0 {
@@ -182,28 +168,5 @@ pub fn read_fault(book: &[u8], rater: u32) -> u32
     if tables != 0 {
         return tables;
     }
-    rows_fault(book, start_of(book, j))
-}
-
-// Stores the table of a rater, where read_fault finds no fault, in an empty place.
-pub fn store(book: &[u8], rater: u32, place: &mut [u32])
-    requires faultless { ⌜ readFault (now book) rater ≡ 0 ⌝ }
-    requires empty { ⌜ now place ≡ wordsOf fresh ⌝ }
-    ensures { λ _. ⌜ now (place .exit) ≡ wordsOf (placeOf (tableOfRater (now (book .entry)) rater)) ⌝ }
-{
-    let start = start_of(book, rater as usize);
-    let grades = byte_at(book, start);
-    let kind = byte_at(book, start + 1);
-    let mut at = start + TABLE_HEAD;
-    let mut i: usize = 0;
-    while i < grades {
-        let row = row_at(book, kind, at);
-        place[i] = row.obligors.0;
-        place[DEFAULTS + i] = row.defaults;
-        place[ANNOUNCED + i] = row.announced;
-        at += ROW;
-        i += 1;
-    }
-    place[GRADE_COUNT] = grades as u32;
-    place[LOADED] = 1;
+    fill(book, start_of(book, j), place)
 }

@@ -32,10 +32,10 @@ use refusals::PLACE_EMPTY;
 use refusals::PLACE_LOADED;
 use refusals::SHORT_BUFFER;
 use spread::Spread;
-use table::PLACE;
 use table::Totals;
 use table::grades_of;
 use table::is_loaded;
+use table::wipe;
 
 pub enum CheapestAnswer {
     Cheapest(CheapestCutoff),
@@ -83,12 +83,7 @@ pub fn load(place: &mut [u32], book: &[u8], rater: u32) -> u32
     if is_loaded(place) {
         return PLACE_LOADED;
     }
-    let fault = book::read_fault(book, rater);
-    if fault != 0 {
-        return fault;
-    }
-    book::store(book, rater, place);
-    0
+    book::read(book, rater, place)
 }
 
 // Makes a loaded place as it is on a fresh desk; 0, or the refusal number.
@@ -100,11 +95,7 @@ pub fn clear(place: &mut [u32]) -> u32
     if !is_loaded(place) {
         return PLACE_EMPTY;
     }
-    let mut i: usize = 0;
-    while i < PLACE {
-        place[i] = 0;
-        i += 1;
-    }
+    wipe(place);
     0
 }
 

@@ -127,6 +127,18 @@ pub fn is_loaded(place: &[u32]) -> bool
     place[LOADED] == 1
 }
 
+// Makes the words of a lent place those of an empty one.
+pub fn wipe(place: &mut [u32])
+    requires { ⌜ length (now place) ≡ placeSize ⌝ }
+    ensures { λ _. ⌜ now (place .exit) ≡ wordsOf fresh ⌝ }
+{
+    let mut i: usize = 0;
+    while i < PLACE {
+        place[i] = 0;
+        i += 1;
+    }
+}
+
 // The number that marks a loaded place.
 fn mark(loaded: bool) -> u32
     ensures { λ r. ⌜ r ≡ cond loaded 1 0 ⌝ }

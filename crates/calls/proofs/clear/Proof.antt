@@ -1,62 +1,28 @@
 -- `clear` meets its contract.
-use Prim.Native.Nat.{ℕ, suc, _+_, _-_, _≤_}
-use mathlib.Core.Path.{_≡_, refl, sym, ap, _∙_}
-use mathlib.Core.List.{[]}
-use native.Mathlib.Omega.{arith}
+use mathlib.Core.Path.{refl}
 use borrow.Author.Needs.{needs}
-use denote.Ref.{now}
-use lib.ListN.{length, set, drop, replicate, length-set, drop-of-length-le}
-use lib.Seq.{paste, paste-zero, paste-suc}
-use Rattle.table.proofs.Placed.{zeros-at}
 use Rattle.calls.specs.Calls.{changeFault}
 use Rattle.calls.proofs.Asked.{empty-at, loaded-at}
 use Rattle.calls.proofs.clear.Statement.{statement}
 use Rattle.calls.proofs.clear.Tie as tie
 
-abbrev Inv-loop : tie.InvT-loop
-Inv-loop place₀ i₀ place i = (place ≡ paste place₀ 0 (replicate 122 0) i) × (length place ≡ 122) × (i ≤ 122)
-
-abbrev μ-loop : tie.MeasureT-loop
-μ-loop place₀ i₀ place i = 122 - i
-
-returns : tie.Need-returns Inv-loop μ-loop
+returns : tie.Need-returns
 unfolding changeFault
 returns c = (empty-at _ _ (c .before .is-loaded .ensures) (c .if1 .taken), refl)
 
-loop-again : tie.Need-loop-again Inv-loop μ-loop
-loop-again c =
-    let a = c .before .before .before .before .before .before in
-    let l = c .before .loop in
-    let e : l .i + 1 ≡ suc (l .i) = omega arith in
-    let z : 0 + l .i ≡ l .i = omega arith in (
-      rw (e, l .inv .0) (ap (λ (k : ℕ). set (paste (now (a .args .place)) 0 (replicate 122 0) (l .i)) k 0) (sym z) ∙ rw (zeros-at 122 (l .i)) at (paste-suc (now (a .args .place)) 0 (replicate 122 0) (l .i) 0 (omega arith) (omega arith))),
-      rw length-set (l .inv .1),
-      omega arith,
-    )
-
-returns-2 : tie.Need-returns-2 Inv-loop μ-loop
+returns-2 : tie.Need-returns-2
 unfolding changeFault
 returns-2 c =
-    let a = c .before .before .before .before .before in
-    let l = c .before .loop in
-    let e : l .i ≡ 122 = omega arith in
-    let end : drop 122 (now (a .before .args .place)) ≡ [] = drop-of-length-le (now (a .before .args .place)) {i = 122} (omega (arith, a .before .pre)) in
-    (loaded-at _ _ (c .before .before .before .is-loaded .ensures) (c .before .before .if1 .left), rw (e, end) at (l .inv .0))
+    let e = c .before .before .before .before in
+    (loaded-at _ _ (e .before .is-loaded .ensures) (e .if1 .left), c .before .before .wipe .ensures)
 
 pub clear-spec : {M : Type 1} → statement M
 clear-spec =
     tie.close
     (tie.spec
-    Inv-loop
-    μ-loop
     (λ c κs. c .before .before .pre)
     (λ c. search needs)
     returns
-    (λ c. (paste-zero (now (c .before .before .before .before .args .place)) 0 (replicate 122 0), c .before .before .before .before .pre, omega arith))
-    (λ c. omega arith)
-    (λ c. omega arith)
-    (λ c. omega arith)
-    (λ c. omega arith)
-    loop-again
-    (λ c. omega arith)
+    (λ c κs. search needs)
+    (λ c. search needs)
     returns-2)

@@ -79,12 +79,12 @@ turn b start w₀ w total before at i n r inv h few fits e en =
     }
 
 -- after the last row
-record Ended (t : Table) (w₀ w : List ℕ) (total n : ℕ) : Type 0 where
+record Ended (t : Table) (w₀ w : List ℕ) (n : ℕ) : Type 0 where
   pub fault : n ≡ tableFault t
   pub whole : n ≡ 0 → w ≡ columnsAfter w₀ 0 t
 
 ended : (b : List ℕ) (start : ℕ) (w₀ w : List ℕ) (total before at i n : ℕ) → Swept b start w₀ w total before at i → gradesAt b start ≤ i
-    → n ≡ fault (sumChecks total) → Ended (tableFrom b start) w₀ w total n
+    → n ≡ fault (sumChecks total) → Ended (tableFrom b start) w₀ w n
 unfolding laterFault stored
 ended b start w₀ w total before at i n inv h en =
     let t = tableFrom b start in
@@ -149,7 +149,6 @@ after : (c : tie.After-total-fault Inv-loop μ-loop)
     (tableFrom (l .before .before .before .before .before .args .b .now) (l .before .before .before .before .before .args .start))
     (l .before .before .before .before .before .args .place .now)
     (l .loop .place)
-    (l .loop .total)
     (c .total-fault .result)
 after c = ended _ _ _ _ _ _ _ _ _ (c .before .before .loop .inv) (omega arith) (c .total-fault .ensures)
 
