@@ -32,7 +32,7 @@ checked b j e =
     record { standing = stands b j (h .0) (c .0) (c .1 .0) (t .0); table = t .1 }
 
 -- A table that is read without a fault is sound.
-sound-read : (b : List ℕ) (j : ℕ) → readFault b j ≡ 0 → Sound (tableOfRater b j)
+pub sound-read : (b : List ℕ) (j : ℕ) → readFault b j ≡ 0 → Sound (tableOfRater b j)
 sound-read b j e =
     let c = checked b j e in
     let s = c .standing in

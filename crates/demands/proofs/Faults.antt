@@ -2,24 +2,26 @@
 use Prim.Native.Nat.{ℕ}
 use mathlib.Core.Path.{_≡_}
 use mathlib.Core.Logic.{_⊎_, inl, inr}
-use mathlib.Core.Bool.{Bool, true, false, _||_}
-use mathlib.Core.List.{List, [], _∷_}
-use lib.Dec.{T, eqb, eqb→eq}
-use Rattle.table.specs.Table.{Table}
+use mathlib.Core.Bool.{Bool, true, false, _&&_, _||_}
+use mathlib.Core.List.{List, [], _∷_, _++_}
+use lib.Dec.{T, eqb, leb, eqb→eq}
+use lib.ListN.{length}
+use Rattle.table.specs.Table.{Table, Grade, defaultsIn, survivorsIn}
 use Rattle.table.proofs.Test.{by-test}
 use Rattle.table.specs.Place.{tableOf}
 use Rattle.table.specs.declared.Place.{Place}
 use Rattle.book.specs.Checks.{Check, at-most, fault, firstFault}
-use Rattle.book.specs.Layout.{headChecks, raterChecks, tableChecks, tablesFaultFrom, firstStart, raters}
-use Rattle.book.specs.Rows.{rowChecks, laterChecks, rowsFault, totalChecks, tableFault, tableOfRater}
-use Rattle.book.specs.Reading.{readFault}
+use Rattle.book.specs.Layout.{headChecks, raterChecks, tableChecks, tablesFault, layoutFault, leftoverFault, firstStart, raters}
+use Rattle.book.specs.Rows.{rowChecks, laterChecks, totalChecks, tableFault, tableOfRater}
+use Rattle.book.specs.Reading.{readFault, allTables, tableFaults, bookFault}
 use Rattle.book.specs.Writing.{writeFault}
 use Rattle.book.proofs.Numbers.{allPass, fault-passes, first-passes, rows-pass, tables-pass}
+use Rattle.shortlist.specs.Checks.{someChecks, equalChecks, sameChecks, shortlistFault}
 use Rattle.calls.specs.Calls.{Question, cheapest, measures, brier, spread, questionChecks, questionFault, Filling, pool, fillSize, fillFault, Change, load, clear, changeFault, emptyFault, pairChecks, compareFault}
 use Rattle.calls.specs.Shares.{sharesChecks, sharesFault}
 use Rattle.desk.specs.declared.Desk.{Desk}
 use Rattle.desk.specs.Desk.{placeAt}
-use Rattle.desk.specs.Calls.{Call, ask, compare, compareShares, fill, write, change, placeFault, numberOf}
+use Rattle.desk.specs.Calls.{Call, ask, compare, compareShares, fill, write, shortlist, change, placeFault, numberOf}
 use Rattle.demands.specs.History.{questionNumbers, fillNumbers, changeNumbers, numbers}
 use Rattle.demands.specs.Demands.{OneOf}
 
@@ -52,29 +54,70 @@ module _ (ns : List ℕ) where
   known-first : (n m : ℕ) → Known n → Known m → Known (firstFault n m)
   known-first = first-passes isKnown
 
--- Reading a book.
-module _ (b : List ℕ) (j : ℕ) where
-  abbrev readNumbers : List ℕ
-  readNumbers = 1 ∷ changeNumbers (load b j)
+  -- Reading a book: its layout, and its tables.
 
-  known-tables : (k i at : ℕ) → Known readNumbers (tablesFaultFrom b k i at)
-  unfolding tableChecks among allPass
-  known-tables = tables-pass (isKnown readNumbers) b (λ i at. tt) tt
+  abbrev LayoutKnown : List ℕ → Type 0
+  LayoutKnown b = T (allPass isKnown (headChecks b)) × ((j at : ℕ) → T (allPass isKnown (tableChecks b j at))) × T (isKnown leftoverFault && isKnown 0)
 
-  known-rows : (t : Table) → Known readNumbers (rowsFault t)
-  unfolding rowChecks laterChecks among allPass
-  known-rows = rows-pass (isKnown readNumbers) tt (λ p g. tt)
+  known-tables : (b : List ℕ) → LayoutKnown b → Known (tablesFault b)
+  known-tables b k = tables-pass isKnown b (k .1) (k .2) (raters b) 1 (firstStart b)
 
-  known-read : Known readNumbers (readFault b j)
-  unfolding readFault headChecks raterChecks tableFault totalChecks among allPass
-  known-read =
-      known-first readNumbers _ _
-      (known-fault readNumbers (headChecks b) tt)
-      (known-first readNumbers _ _
-      (known-fault readNumbers (raterChecks b j) tt)
-      (known-first readNumbers _ _
-      (known-tables (raters b) 1 (firstStart b))
-      (known-first readNumbers _ _ (known-rows (tableOfRater b j)) (known-fault readNumbers (totalChecks (tableOfRater b j)) tt))))
+  abbrev TableKnown : Type 0
+  TableKnown = ((p : ℕ) (g : Grade) → T (allPass isKnown (laterChecks p g))) × ((t : Table) → T (allPass isKnown (totalChecks t)))
+
+  known-table : TableKnown → (t : Table) → Known (tableFault t)
+  unfolding tableFault among
+  known-table k t = known-first _ _ (rows-pass isKnown tt (k .0) t) (known-fault (totalChecks t) (k .1 t))
+
+  known-book : (b : List ℕ) → LayoutKnown b → TableKnown → Known (bookFault b)
+  unfolding bookFault layoutFault tableFaults among
+  known-book b k h = known-first _ _ (known-first _ _ (known-fault (headChecks b) (k .0)) (known-tables b k)) (each (allTables b))
+    where
+      each : (ts : List Table) → Known (tableFaults ts)
+      each [] = tt
+      each (t ∷ ts) = known-first _ _ (known-table h t) (each ts)
+
+  -- The totals of all raters.
+
+  known-some : (count : Table → ℕ) (n : ℕ) → Known n → (ts : List Table) → Known (fault (someChecks count n ts))
+  unfolding someChecks fault among
+  known-some count n k [] = tt
+  known-some count n k (t ∷ ts) = by-test Known (leb 1 (count t)) (λ _. known-some count n k ts) (λ _. k)
+
+  known-equal : (count : Table → ℕ) (n : ℕ) → Known 25 → (ts : List Table) (more : List Check) → Known (fault more)
+      → Known (fault (equalChecks count n ts ++ more))
+  unfolding equalChecks fault
+  known-equal count n k [] more h = h
+  known-equal count n k (t ∷ ts) more h = by-test Known (eqb n (count t)) (λ _. known-equal count n k ts more h) (λ _. k)
+
+  known-same : (count : Table → ℕ) → Known 25 → (ts : List Table) → Known (fault (sameChecks count ts))
+  unfolding sameChecks fault among
+  known-same count k [] = tt
+  known-same count k (t ∷ ts) = known-equal count (count t) k ts (sameChecks count ts) (known-same count k ts)
+
+known-read : (b : List ℕ) (j : ℕ) → Known (1 ∷ changeNumbers (load b j)) (readFault b j)
+unfolding readFault headChecks raterChecks tableChecks rowChecks laterChecks totalChecks among allPass
+known-read b j =
+    let ns = 1 ∷ changeNumbers (load b j) in
+    known-first ns _ _
+    (known-fault ns (headChecks b) tt)
+    (known-first ns _ _
+    (known-fault ns (raterChecks b j) tt)
+    (known-first ns _ _ (known-tables ns b (tt, λ i at. tt, tt)) (known-table ns (λ p g. tt, λ t. tt) (tableOfRater b j))))
+
+known-shortlist : (b out : List ℕ) → Known (numbers (shortlist b out)) (shortlistFault b (length out))
+unfolding shortlistFault headChecks tableChecks rowChecks laterChecks totalChecks among allPass
+known-shortlist b out =
+    let ns = numbers (shortlist b out) in
+    known-first ns _ _
+    (known-book ns b (tt, λ i at. tt, tt) (λ p g. tt, λ t. tt))
+    (known-first ns _ _
+    (known-first ns _ _
+    (known-some ns defaultsIn 23 tt (allTables b))
+    (known-first ns _ _
+    (known-some ns survivorsIn 24 tt (allTables b))
+    (known-first ns _ _ (known-same ns defaultsIn tt (allTables b)) (known-same ns survivorsIn tt (allTables b)))))
+    (known-fault ns _ tt))
 
 -- Each call on a place: the checks of the place itself, among which 22 or 21 is the first.
 
@@ -126,6 +169,7 @@ known d compare = known-pair (23 ∷ 24 ∷ 25 ∷ []) (d .first) (d .second) _ 
 known d compareShares = known-pair (23 ∷ 24 ∷ 35 ∷ []) (d .first) (d .second) _ (known-fault (numbers compareShares) _ tt)
 known d (fill i f out) = known-place (fillNumbers f) i _ (known-fill (placeAt d i) f _)
 known d (write out) = known-fault (numbers (write out)) _ tt
+known d (shortlist b out) = known-shortlist b out
 known d (change i c) = known-place (changeNumbers c) i _ (known-change (placeAt d i) c)
 
 pub answered : (d : Desk) (c : Call) → (numberOf d c ≡ 0) ⊎ OneOf (numberOf d c) (numbers c)
@@ -142,6 +186,7 @@ unlisted compare h = h
 unlisted compareShares h = h
 unlisted (fill i pool out) h = h
 unlisted (write out) h = h
+unlisted (shortlist b out) h = h
 unlisted (change i (load b j)) h = h
 unlisted (change i clear) h = h
 

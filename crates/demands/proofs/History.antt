@@ -16,7 +16,7 @@ use Rattle.calls.specs.Calls.{Change, load, clear, changeFault}
 use Rattle.calls.proofs.Leaves.{by-fault, leaves-map}
 use Rattle.desk.specs.declared.Desk.{Desk}
 use Rattle.desk.specs.Desk.{SoundDesk}
-use Rattle.desk.specs.Calls.{Call, ask, compare, compareShares, fill, write, change, after}
+use Rattle.desk.specs.Calls.{Call, ask, compare, compareShares, fill, write, shortlist, change, after}
 use Rattle.desk.proofs.Soundness.{read-sound}
 use Rattle.desk.proofs.Number.{Number, one, two, neither, number}
 use Rattle.demands.specs.History.{deskFrom, deskAfter, Held, nothing, table, filled, heldThen, heldAfter, heldFrom, held, placed}
@@ -44,6 +44,7 @@ after-call : (h k : Held) (c : Call) → after (deskOf h k) c ≡ deskOf (heldAf
 after-call h k (ask i q) = refl
 after-call h k compare = refl
 after-call h k compareShares = refl
+after-call h k (shortlist b out) = refl
 after-call h k (fill i f out) = refl
 after-call h k (write out) = refl
 after-call h k (change i c) = after-change h k c (number i)
@@ -74,6 +75,7 @@ held-sound : (i : ℕ) (h : Held) (c : Call) → SoundHeld h → SoundHeld (held
 held-sound i h (ask k q) s = s
 held-sound i h compare s = s
 held-sound i h compareShares s = s
+held-sound i h (shortlist b out) s = s
 held-sound i h (fill k f out) s = s
 held-sound i h (write out) s = s
 held-sound i h (change k c) s = by-test SoundHeld (eqb k i) (λ _. then-sound h c s) (λ _. s)

@@ -1,6 +1,6 @@
 -- What calls leave as it was: a refused call everything, an accepted one what it does not write and the other place.
 use Prim.Native.Nat.{ℕ, zero, suc, _≤_}
-use mathlib.Core.Path.{_≡_, refl}
+use mathlib.Core.Path.{_≡_, refl, sym}
 use mathlib.Core.List.{List}
 use native.Mathlib.Omega.{arith}
 use lib.ListN.{length, drop, length-append, length-drop}
@@ -9,16 +9,22 @@ use Rattle.table.specs.Table.{Table}
 use Rattle.table.specs.declared.Place.{Place}
 use Rattle.book.specs.Checks.{firstFault}
 use Rattle.book.specs.Encode.{bookSize, encode}
+use Rattle.book.specs.Reading.{allTables}
 use Rattle.book.specs.Writing.{writeFault, bufferOr}
 use Rattle.book.proofs.Books.{length-encode}
 use Rattle.book.proofs.Checks.{held, held-first}
 use Rattle.pooling.proofs.Written.{length-pooled, drop-pooled}
+use Rattle.shortlist.specs.Shortlist.{listed}
+use Rattle.shortlist.specs.Checks as listing
+use Rattle.shortlist.specs.Checks.{shortlistFault}
+use Rattle.shortlist.proofs.Books.{not-refused, comparable, book-some}
+use Rattle.shortlist.proofs.Ended.{buffer-kept}
 use Rattle.calls.specs.Answers.{leaves}
 use Rattle.calls.specs.Calls.{Filling, pool, fillSize, filledWith, fillFault}
 use Rattle.calls.proofs.Leaves.{by-fault}
 use Rattle.desk.specs.declared.Desk.{Desk}
 use Rattle.desk.specs.Desk.{tableAt, withPlace}
-use Rattle.desk.specs.Calls.{Call, ask, compare, compareShares, fill, write, change, placeFault, numberOf, after, lent, lentAfter, lentSize, loadedTables}
+use Rattle.desk.specs.Calls.{Call, ask, compare, compareShares, fill, write, shortlist, change, placeFault, numberOf, after, lent, lentAfter, lentSize, loadedTables}
 use Rattle.desk.proofs.Number.{Number, one, two, neither, number}
 use Rattle.demands.specs.History.{Keeps}
 
@@ -38,6 +44,7 @@ refused-kept d compare k = (refl, refl)
 refused-kept d compareShares k = (refl, refl)
 refused-kept d (fill i f out) k = (refl, left _ _ _ k)
 refused-kept d (write out) k = (refl, buffer-left _ _ _ k)
+refused-kept d (shortlist b out) k = (refl, sym (buffer-kept _ _ _ k))
 refused-kept d (change i c) k = (left _ _ _ k, refl)
 
 -- What stands in a lent buffer behind the first n numbers.
@@ -55,6 +62,17 @@ behind-book ts buf zero room =
     (rw (length-append, length-encode, length-drop) (omega arith), drop-at (encode ts) _ (bookSize ts) (length-encode ts))
 behind-book ts buf (suc n) room = (refl, refl)
 
+behind-list : (b out : List ℕ) → Behind (length (listed (allTables b))) out (listing.bufferAfter b out)
+unfolding listing.bufferOr
+behind-list b out = cases (shortlistFault b (length out)) refl
+  where
+    cases : (n : ℕ) → shortlistFault b (length out) ≡ n → Behind (length (listed (allTables b))) out (listing.bufferOr n (allTables b) out)
+    cases zero e =
+        let few = book-some b (not-refused b (length out) e) .1 in
+        let room = comparable b (length out) e .1 in
+        (rw (length-append, length-drop) (omega (arith, few, room)), drop-at (listed (allTables b)) _ (length (listed (allTables b))) refl)
+    cases (suc n) e = (refl, refl)
+
 pub written-only : (d : Desk) (c : Call) → Behind (lentSize d c) (lent c) (lentAfter d c)
 unfolding fillFault writeFault
 written-only d (ask i q) = (refl, refl)
@@ -65,6 +83,7 @@ written-only d (fill i f out) =
     (λ e. behind-filled (tableAt d i) f out (held _ (held-first _ _ (held-first _ _ e .1) .1) .0))
     (λ _. (refl, refl))
 written-only d (write out) = behind-book (loadedTables d) out (writeFault (loadedTables d) (length out)) (λ e. held _ e .1 .0)
+written-only d (shortlist b out) = behind-list b out
 written-only d (change i c) = (refl, refl)
 
 -- The other place.
@@ -86,4 +105,5 @@ others-kept d compare = (λ k. refl, λ k. refl)
 others-kept d compareShares = (λ k. refl, λ k. refl)
 others-kept d (fill i f out) = (λ k. refl, λ k. refl)
 others-kept d (write out) = (λ k. refl, λ k. refl)
+others-kept d (shortlist b out) = (λ k. refl, λ k. refl)
 others-kept d (change i c) = others d _ _ (number i)

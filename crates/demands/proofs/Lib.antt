@@ -4,4 +4,5 @@ pub mod Loads
 pub mod Kept
 pub mod Accepted
 pub mod Verdicts
+pub mod Shortlists
 pub mod Tables

@@ -3,7 +3,7 @@
 use Prim.Native.Nat.{ℕ, _-_, _≤_, _<_}
 use mathlib.Core.Path.{_≡_}
 use mathlib.Core.Bool.{false}
-use mathlib.Core.Logic.{_⊎_}
+use mathlib.Core.Logic.{_↔_, _⊎_}
 use mathlib.Core.List.{List, [], _∷_, _++_}
 use lib.ListN.{length, drop, take, getD}
 use Rattle.table.specs.Table.{Table, Every, Sound, Mixed, occupied, defaultsIn, survivorsIn, obligorsIn}
@@ -19,17 +19,20 @@ use Rattle.book.specs.Claims as book
 use Rattle.pooling.specs.Numbers.{ratesAtOccupied}
 use Rattle.pooling.specs.Regression.{IsRegression}
 use Rattle.pooling.specs.Claims.{RepeatsNextBetter, RepeatsBest}
+use Rattle.cutoff.specs.Cutoff.{AtLeastAsGood}
 use Rattle.cutoff.specs.Verdict.{callsFirst, callsSecond, Settles}
 use Rattle.cutoff.specs.declared.Verdict.{Verdict}
 use Rattle.cutoff.specs.Claims as cutoff
 use Rattle.shares.specs.Verdict.{SettlesByShares}
 use Rattle.shares.specs.Claims as shares
 use Rattle.measures.specs.Claims as measuring
+use Rattle.shortlist.specs.Shortlist.{Better}
+use Rattle.shortlist.specs.Claims.{Rater, Has, InBookOrder}
 use Rattle.calls.specs.Answers.{Answer, accepted, refused}
 use Rattle.calls.specs.Calls.{Question, measures, pool, load}
 use Rattle.desk.specs.declared.Desk.{Desk}
 use Rattle.desk.specs.Desk.{placeAt, tableAt, SoundDesk}
-use Rattle.desk.specs.Calls.{Call, ask, fill, write, change, numberOf, after, lent, lentAfter, lentSize, loadedTables, Compares, ComparesByShares}
+use Rattle.desk.specs.Calls.{Call, ask, fill, write, shortlist, change, numberOf, after, lent, lentAfter, lentSize, loadedTables, Compares, ComparesByShares}
 use Rattle.demands.specs.History.{deskAfter, nothing, table, filled, held, placed, numbers, Keeps}
 
 -- What calls leave.
@@ -208,6 +211,35 @@ abbrev pub ComparisonsAgree : Type 0
 ComparisonsAgree =
     (d : Desk) → SoundDesk d → (r s : Answer Verdict) → Compares d r → ComparesByShares d s → SameKind r s
 
+-- R-7: "List the raters for which no other rater of the book is better, in book order .. Of raters that are equal, all are listed or none. Every
+-- unlisted rater is beaten by a listed one." l is such a list of the raters of the book b.
+pub record IsShortlist (b l : List ℕ) : Type 0 where
+  pub in-book-order : InBookOrder l
+  pub unbeaten : (i : ℕ) → Has i l ↔ (Rater b i × ((j : ℕ) → Rater b j → Better (tableOfRater b j) (tableOfRater b i) → ⊥))
+  pub together : (i j : ℕ) → Rater b i → Rater b j
+      → AtLeastAsGood (tableOfRater b i) (tableOfRater b j) → AtLeastAsGood (tableOfRater b j) (tableOfRater b i) → Has i l ↔ Has j l
+  pub beaten : (i : ℕ) → Rater b i → (Has i l → ⊥) → (j : ℕ) × Has j l × Better (tableOfRater b j) (tableOfRater b i)
+  pub some : 1 ≤ length l
+
+-- So are the numbers that an accepted shortlist leaves in the buffer: as many as it returns.
+abbrev pub ShortlistIsRight : Type 0
+ShortlistIsRight =
+    (d : Desk) (b out : List ℕ) → numberOf d (shortlist b out) ≡ 0
+    → IsShortlist b (take (lentSize d (shortlist b out)) (lentAfter d (shortlist b out)))
+
+-- "The desk plays no part."
+abbrev pub ShortlistNeedsNoDesk : Type 0
+ShortlistNeedsNoDesk =
+    (d e : Desk) (b out : List ℕ)
+    → (numberOf d (shortlist b out) ≡ numberOf e (shortlist b out)) × (lentAfter d (shortlist b out) ≡ lentAfter e (shortlist b out))
+
+-- Any two raters of a book whose shortlist is accepted are compared, once they are loaded: what compare answers settles which of them is better.
+abbrev pub ShortlistedRatersAreCompared : Type 0
+ShortlistedRatersAreCompared =
+    (calls : List Call) (b out : List ℕ) (i j : ℕ) → numberOf (deskAfter calls) (shortlist b out) ≡ 0 → Rater b i → Rater b j
+    → held 1 calls ≡ table (tableOfRater b i) → held 2 calls ≡ table (tableOfRater b j)
+    → (r : Answer Verdict) → Compares (deskAfter calls) r → SettledBy (tableOfRater b i) (tableOfRater b j) r
+
 -- Every table has a cheapest cost on shares at every pair of prices, and one, which is a proper fraction where the comparison takes the table.
 abbrev pub EveryTableHasOneCheapestShare : Type 0
 EveryTableHasOneCheapestShare = shares.CheapestShareIsCheapest × shares.CheapestShareIsUnique × shares.ShareCostsAreProper
@@ -253,6 +285,9 @@ pub record Demands : Type 0 where
   pub compare-is-right : CompareIsRight
   pub compare-shares-is-right : CompareSharesIsRight
   pub comparisons-agree : ComparisonsAgree
+  pub shortlist-is-right : ShortlistIsRight
+  pub shortlist-needs-no-desk : ShortlistNeedsNoDesk
+  pub shortlisted-raters-are-compared : ShortlistedRatersAreCompared
   pub every-table-has-one-cheapest-share : EveryTableHasOneCheapestShare
   pub sizes-play-no-part : SizesPlayNoPart
   pub every-table-has-one-cheapest-cost : EveryTableHasOneCheapestCost

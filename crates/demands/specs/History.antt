@@ -13,7 +13,7 @@ use Rattle.calls.specs.Answers.{leaves}
 use Rattle.calls.specs.Calls.{Question, cheapest, measures, brier, spread, Filling, pool, Change, load, clear}
 use Rattle.desk.specs.declared.Desk.{Desk}
 use Rattle.desk.specs.Desk.{freshDesk}
-use Rattle.desk.specs.Calls.{Call, ask, compare, compareShares, fill, write, change, after}
+use Rattle.desk.specs.Calls.{Call, ask, compare, compareShares, fill, write, shortlist, change, after}
 
 -- The desk.
 
@@ -45,6 +45,7 @@ numbers compare = 22 ∷ 23 ∷ 24 ∷ 25 ∷ []
 numbers compareShares = 22 ∷ 23 ∷ 24 ∷ 35 ∷ []
 numbers (fill i f out) = 1 ∷ fillNumbers f
 numbers (write out) = 22 ∷ 13 ∷ []
+numbers (shortlist book out) = 2 ∷ 3 ∷ 31 ∷ 32 ∷ 6 ∷ 7 ∷ 33 ∷ 8 ∷ 10 ∷ 34 ∷ 9 ∷ 11 ∷ 23 ∷ 24 ∷ 25 ∷ 13 ∷ []
 numbers (change i c) = 1 ∷ changeNumbers c
 
 -- The call does not change place i.
@@ -54,6 +55,7 @@ Keeps i compare = Unit {0}
 Keeps i compareShares = Unit {0}
 Keeps i (fill k f out) = Unit {0}
 Keeps i (write out) = Unit {0}
+Keeps i (shortlist book out) = Unit {0}
 Keeps i (change k c) = k ≡ i → ⊥
 
 -- What a place holds, told by the books alone.
@@ -78,6 +80,7 @@ heldAfter i h compare = h
 heldAfter i h compareShares = h
 heldAfter i h (fill k f out) = h
 heldAfter i h (write out) = h
+heldAfter i h (shortlist book out) = h
 heldAfter i h (change k c) = cond (eqb k i) (heldThen h c) h
 
 unfoldable pub heldFrom : ℕ → Held → List Call → Held

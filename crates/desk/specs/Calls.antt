@@ -6,11 +6,15 @@ use lib.ListN.{length}
 use Rattle.table.specs.Table.{Table}
 use Rattle.book.specs.Checks.{at-most, fault, firstFault}
 use Rattle.book.specs.Encode.{bookSize}
+use Rattle.book.specs.Reading.{allTables}
 use Rattle.book.specs.Writing.{tablesOf, writeFault, bufferAfter}
 use Rattle.cutoff.specs.Verdict.{IsVerdict}
 use Rattle.cutoff.specs.declared.Verdict.{Verdict}
 use Rattle.shares.specs.Verdict.{IsVerdictByShares}
 use Rattle.spread.specs.Spread.{IsSpread}
+use Rattle.shortlist.specs.Shortlist.{listed}
+use Rattle.shortlist.specs.Checks as listing
+use Rattle.shortlist.specs.Checks.{shortlistFault}
 use Rattle.spread.specs.declared.Spread.{Spread}
 use Rattle.calls.specs.Answers.{Answer, leaves, Limited}
 use Rattle.calls.specs.Calls.{Question, spread, questionFault, Filling, fillSize, filledWith, fillFault, Change, changedTo, changeFault, compareFault}
@@ -26,6 +30,8 @@ pub data Call : Type 0 where
   -- fills a lent buffer from place i, or from both
   fill : (i : ℕ) → Filling → (out : List ℕ) → Call
   write : (out : List ℕ) → Call
+  -- fills a lent buffer from a book; no place is asked
+  shortlist : (book out : List ℕ) → Call
   -- changes place i
   change : (i : ℕ) → Change → Call
 
@@ -44,6 +50,7 @@ numberOf d compare = compareFault (d .first) (d .second)
 numberOf d compareShares = sharesFault (d .first) (d .second)
 numberOf d (fill i f out) = firstFault (placeFault i) (fillFault (placeAt d i) f (length out))
 numberOf d (write out) = writeFault (loadedTables d) (length out)
+numberOf d (shortlist book out) = shortlistFault book (length out)
 numberOf d (change i c) = firstFault (placeFault i) (changeFault (placeAt d i) c)
 
 -- "Load fills an empty place, clear makes a loaded one as it is on a fresh desk, all other calls leave the desk unchanged."
@@ -53,6 +60,7 @@ after d compare = d
 after d compareShares = d
 after d (fill i f out) = d
 after d (write out) = d
+after d (shortlist book out) = d
 after d (change i c) = leaves (numberOf d (change i c)) d (withPlace d i (changedTo c))
 
 -- The buffer lent to be written, before and after a call, and how much of it an accepted one writes.
@@ -63,6 +71,7 @@ lent compare = []
 lent compareShares = []
 lent (fill i f out) = out
 lent (write out) = out
+lent (shortlist book out) = out
 lent (change i c) = []
 
 abbrev pub lentAfter : Desk → Call → List ℕ
@@ -71,6 +80,7 @@ lentAfter d compare = []
 lentAfter d compareShares = []
 lentAfter d (fill i f out) = leaves (numberOf d (fill i f out)) out (filledWith (tableAt d i) f out)
 lentAfter d (write out) = bufferAfter (loadedTables d) out
+lentAfter d (shortlist book out) = listing.bufferAfter book out
 lentAfter d (change i c) = []
 
 abbrev pub lentSize : Desk → Call → ℕ
@@ -79,6 +89,7 @@ lentSize d compare = 0
 lentSize d compareShares = 0
 lentSize d (fill i f out) = fillSize (tableAt d i) f
 lentSize d (write out) = bookSize (loadedTables d)
+lentSize d (shortlist book out) = length (listed (allTables book))
 lentSize d (change i c) = 0
 
 -- What compare may answer. Refusals and the kind of verdict are given; the price pairs are limited only, since "which pair is carried

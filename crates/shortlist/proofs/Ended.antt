@@ -18,7 +18,7 @@ unfolding countOr
 count-refused zero ts h = absurd (h refl)
 count-refused (suc n) ts h = refl
 
-buffer-kept : (n : ℕ) (ts : List Table) (out : List ℕ) → (n ≡ 0 → ⊥) → out ≡ bufferOr n ts out
+pub buffer-kept : (n : ℕ) (ts : List Table) (out : List ℕ) → (n ≡ 0 → ⊥) → out ≡ bufferOr n ts out
 unfolding bufferOr
 buffer-kept zero ts out h = absurd (h refl)
 buffer-kept (suc n) ts out h = refl

@@ -1,4 +1,5 @@
 -- The demands: `demands` has nothing to do but to show each of them.
+use mathlib.Core.Path.{refl}
 use Rattle.book.proofs.Accept as reading
 use Rattle.book.proofs.RoundTrip.{round-trip}
 use Rattle.book.proofs.Again.{written-again}
@@ -15,6 +16,7 @@ use Rattle.demands.proofs.Loads.{load-tells, load-means, load-takes, lo
 use Rattle.demands.proofs.Kept.{refused-kept, written-only, others-kept}
 use Rattle.demands.proofs.Accepted.{regression-written, repeats-written, measured-mixed, loads-back, writes-back}
 use Rattle.demands.proofs.Verdicts.{compare-right, shares-right, agree}
+use Rattle.demands.proofs.Shortlists.{shortlist-right, raters-compared}
 use Rattle.demands.proofs.demands.Statement.{statement}
 use Rattle.demands.proofs.demands.Tie as tie
 
@@ -53,6 +55,9 @@ returns c = record {
   compare-is-right = compare-right;
   compare-shares-is-right = shares-right;
   comparisons-agree = agree;
+  shortlist-is-right = shortlist-right;
+  shortlist-needs-no-desk = λ d e b out. (refl, refl);
+  shortlisted-raters-are-compared = raters-compared;
   every-table-has-one-cheapest-share = (cheapest-share, cheapest-shares-equal, share-costs-proper);
   sizes-play-no-part = (multiples-equal, multiples-as-good, multiples-one-verdict);
   every-table-has-one-cheapest-cost = (cheapest-is, cheapest-unique);
