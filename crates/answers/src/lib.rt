@@ -14,6 +14,7 @@ use measures::Measures;
 use measures::SignedFraction;
 use measures::UnsignedFraction;
 use print::text;
+use shortlist::Shortlisted;
 use spread::Spread;
 
 fn wide_number(n: u64) {
@@ -47,13 +48,33 @@ pub fn ack(call: &[u8], a: Ack) {
     }
 }
 
-pub fn pool(a: Ack, lent: &[u32]) {
-    ack(b"pool", a);
+// The whole of a lent buffer.
+fn numbers(lent: &[u32]) {
     let mut i: usize = 0;
     while i < lent.len() {
         number(lent[i]);
         i += 1;
     }
+}
+
+pub fn pool(a: Ack, lent: &[u32]) {
+    ack(b"pool", a);
+    numbers(lent);
+}
+
+fn listed(a: Shortlisted) {
+    match a {
+        Shortlisted::Count(n) => {
+            text(b"shortlist ok");
+            number(n);
+        }
+        Shortlisted::Refused(n) => refused(b"shortlist", n),
+    }
+}
+
+pub fn shortlist(a: Shortlisted, lent: &[u32]) {
+    listed(a);
+    numbers(lent);
 }
 
 pub fn cheapest(a: CheapestAnswer) {

@@ -98,7 +98,7 @@ module _ (ns : List ℕ) where
 known-read : (b : List ℕ) (j : ℕ) → Known (1 ∷ changeNumbers (load b j)) (readFault b j)
 unfolding readFault headChecks raterChecks tableChecks rowChecks laterChecks totalChecks among allPass
 known-read b j =
-    let ns = 1 ∷ changeNumbers (load b j) in
+    let ns : List ℕ = 1 ∷ changeNumbers (load b j) in
     known-first ns _ _
     (known-fault ns (headChecks b) tt)
     (known-first ns _ _
@@ -108,7 +108,7 @@ known-read b j =
 known-shortlist : (b out : List ℕ) → Known (numbers (shortlist b out)) (shortlistFault b (length out))
 unfolding shortlistFault headChecks tableChecks rowChecks laterChecks totalChecks among allPass
 known-shortlist b out =
-    let ns = numbers (shortlist b out) in
+    let ns : List ℕ = numbers (shortlist b out) in
     known-first ns _ _
     (known-book ns b (tt, λ i at. tt, tt) (λ p g. tt, λ t. tt))
     (known-first ns _ _

@@ -1,11 +1,15 @@
 // The desk for callers in C and other languages: every entry point over the image of a desk in the caller's memory, of which a part is lent
 // to the calls on words. A function returns 0 or the refusal number; its answer goes to a lent buffer, which a refusal leaves as it was.
 ghost use mathlib.Core.Path.{_≡_};
+ghost use lib.ListN.{length};
 ghost use Rattle.book.specs.Encode.{bookSize};
+ghost use Rattle.book.specs.Reading.{allTables};
 ghost use Rattle.cutoff.specs.Cutoff.{cheapestOf};
 ghost use Rattle.measures.specs.Measures.{measuresOf};
 ghost use Rattle.measures.specs.Brier.{brierOf};
 ghost use Rattle.spread.specs.Spread.{IsSpread};
+ghost use Rattle.shortlist.specs.Shortlist.{listed};
+ghost use Rattle.shortlist.specs.Checks.{shortlistFault, bufferAfter};
 ghost use Rattle.calls.specs.Answers.{leaves, compareSays};
 ghost use Rattle.calls.specs.Calls.{cheapest, measures, brier, spread, pool, load, clear};
 ghost use Rattle.desk.specs.Desk.{freshDesk};
@@ -32,9 +36,10 @@ use calls::SpreadAnswer;
 use cutoff::Verdict;
 use desk::is_place;
 use refusals::NO_PLACE;
+use shortlist::Shortlisted;
 use table::PLACE;
 
-const VERSION: u32 = 7;
+const VERSION: u32 = 8;
 
 // The version of this library.
 #[no_mangle]
@@ -46,7 +51,7 @@ pub extern "C" fn desk_version() -> u32
 
 // The same under a name with the number in it: a header of another version asks for another name, which the linker then misses.
 #[no_mangle]
-pub extern "C" fn desk_library_is_version_7() -> u32
+pub extern "C" fn desk_library_is_version_8() -> u32
     ensures { λ r. ⌜ r ≡ version ⌝ }
 {
     desk_version()
@@ -267,6 +272,24 @@ pub extern "C" fn desk_write(desk: &[u32; DESK], book: &mut [u8], written: &mut 
             0
         }
         Written::Refused(n) => n,
+    }
+}
+
+// The numbers of the raters of a book for which no other one is better, in book order, into a lent buffer whose further numbers are kept, and how
+// many there are. No desk plays a part.
+#[no_mangle]
+pub extern "C" fn desk_shortlist(book: &[u8], numbers: &mut [u32], count: &mut usize) -> u32
+    ensures { λ r. ⌜ r ≡ shortlistFault (now (book .entry)) (length (now (numbers .entry))) ⌝ }
+    ensures { λ _. ⌜ now (numbers .exit) ≡ bufferAfter (now (book .entry)) (now (numbers .entry)) ⌝ }
+    ensures { λ r. ⌜ now (count .exit) ≡ leaves r (now (count .entry)) (length (listed (allTables (now (book .entry))))) ⌝ }
+{
+    let answered = shortlist::shortlist(book, numbers);
+    match answered {
+        Shortlisted::Count(n) => {
+            *count = n as usize;
+            0
+        }
+        Shortlisted::Refused(n) => n,
     }
 }
 

@@ -16,7 +16,7 @@ pub struct Ran {
 // The longest book, in bytes.
 const BOOK: usize = 65_535;
 
-// The longest buffer that is lent to pool, in numbers, and what it holds before.
+// The longest buffer of numbers that is lent, and what it holds before.
 const LENT_NUMBERS: usize = 512;
 
 const NUMBER: u32 = 0xaaaa_aaaa;
@@ -94,6 +94,28 @@ fn pool(desk: Desk, place: u32, length: usize) -> bool
     true
 }
 
+// The book is read into the lent buffer first, as for load.
+fn shortlist_into(book: &mut [u8], lent: &mut [u32]) -> bool {
+    if io::read_full(STDIN_FILENO, book) < book.len() {
+        return false;
+    }
+    let listed = shortlist::shortlist(book, lent);
+    answers::shortlist(listed, lent);
+    true
+}
+
+fn shortlist(length: usize, book_length: usize) -> bool {
+    if LENT_NUMBERS < length {
+        return false;
+    }
+    if BOOK < book_length {
+        return false;
+    }
+    let mut numbers = [NUMBER; LENT_NUMBERS];
+    let mut book = io::large_buffer();
+    shortlist_into(&mut book[..book_length], &mut numbers[..length])
+}
+
 fn write_into(desk: Desk, lent: &mut [u8])
     requires { ⌜ SoundDesk desk ⌝ }
 {
@@ -133,6 +155,7 @@ fn question(desk: Desk, call: Call) -> bool
         script::BRIER => answers::brier(desk.brier(place)),
         script::SPREAD => spread(desk, place),
         script::WRITE => return write(desk, place as usize),
+        script::SHORTLIST => return shortlist(place as usize, call.second as usize),
         _ => return false,
     }
     true

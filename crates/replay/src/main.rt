@@ -1,5 +1,5 @@
 // Runs a script of calls on one desk that starts empty, and prints the answer to each on a line.
-// A command is an operation number and its operands, little-endian numbers of 4 bytes; a load is followed by its book:
+// A command is an operation number and its operands, little-endian numbers of 4 bytes; a load and a shortlist are followed by their book:
 //     1 load      place, rater, length of the book in bytes (at most 65,535)
 //     2 clear     place
 //     3 pool      place, length of the lent buffer in numbers (at most 512), each first set to 0xaaaaaaaa
@@ -10,7 +10,8 @@
 //     8 spread    place
 //     9 write     length of the lent buffer in bytes (at most 8,192), each first set to 0xaa
 //    10 compare_shares
-// Pool and write print the whole buffer after the call, write in hexadecimal, and spread the 64 bits of each float as a number.
+//    11 shortlist  length of the lent buffer in numbers (at most 512), each first set to 0xaaaaaaaa, length of the book in bytes (at most 65,535)
+// Pool, shortlist and write print the whole buffer after the call, write in hexadecimal, and spread the 64 bits of each float as a number.
 // An unknown operation, an operand cut short, or a length above its limit ends the script with the line `end`.
 ghost use Rattle.desk.specs.Desk.{SoundDesk};
 

@@ -31,6 +31,8 @@ pub const WRITE: u32 = 9;
 
 pub const COMPARE_SHARES: u32 = 10;
 
+pub const SHORTLIST: u32 = 11;
+
 pub enum Command {
     Call(Call),
     // The input has ended before it.
@@ -58,7 +60,7 @@ fn operands_size(operation: u32) -> usize
 {
     match operation {
         LOAD | CHEAPEST => OPERANDS,
-        POOL => 8,
+        POOL | SHORTLIST => 8,
         CLEAR | MEASURES | BRIER | SPREAD | WRITE => 4,
         _ => 0,
     }

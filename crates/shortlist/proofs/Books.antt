@@ -52,13 +52,12 @@ module _ (b : List ℕ) (a : Accepted b) where
             let p = l .0 h in
             let r : Rater b i = (p .0 .0, omega (arith, p .0 .1, count)) in
             (r, λ j q better. p .1 j (q .0, omega (arith, q .1, count)) (rw (no-is b j q, no-is b i r) better)),
-        λ h. l .1
-            (
-              (h .0 .0, omega (arith, h .0 .1, count)),
-              λ j q better.
-                  let r : Rater b j = (q .0, omega (arith, q .1, count)) in
-                  h .1 j r (rw (no-is b j r, no-is b i (h .0)) at better),
-            ),
+        λ h. l .1 (
+          (h .0 .0, omega (arith, h .0 .1, count)),
+          λ j q better.
+              let r : Rater b j = (q .0, omega (arith, q .1, count)) in
+              h .1 j r (rw (no-is b j r, no-is b i (h .0)) at better),
+        ),
       )
 
   pub book-equals : (i j : ℕ) → Rater b i → Rater b j

@@ -79,8 +79,7 @@ list-unbeaten-requires : tie.Need-list-unbeaten-requires
 list-unbeaten-requires c κs =
     let e = c .before .before .before in
     let f = start e .before .read-book .ensures .1 in
-    let r = e .before .before .before .raters-of .ensures .0 in
-    (
+    let r = e .before .before .before .raters-of .ensures .0 in (
       rw r (book-searchable (book (start e)) (scales e) (whole (start e)) (f .0 (start e .if1 .left)) (f .1) (comparable e)),
       omega (arith, c .before .before .if3 .left),
     )

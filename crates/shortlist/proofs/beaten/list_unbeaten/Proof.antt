@@ -29,8 +29,7 @@ compare-with-requires c κs =
 loop-again : tie.Need-loop-again Inv-loop μ-loop
 unfolding allCompared
 loop-again c =
-    let l = c .before .before .before .before .loop in
-    (
+    let l = c .before .before .before .before .loop in (
       omega (arith, c .before .before .before .loop-test .taken),
       c .compare-with .ensures .1,
       rw (add-one (l .j), ← l .inv .2) (c .compare-with .ensures .0),

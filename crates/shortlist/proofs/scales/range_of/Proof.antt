@@ -33,9 +33,11 @@ loop-again : tie.Need-loop-again Inv-loop μ-loop
 loop-again c =
     let s = c .before .before .before .before .before .before .before in
     let l = c .before .before .before .before .before .loop in
-    let one = c .before .before .before .scale-of .ensures in
-    (omega (arith, l .inv .0), range-next (now (s .args .held)) (s .args .at) (l .rater) (s .args .raters) (omega arith) (l .inv .0) (l .inv .1)
-    (rw one at (c .before .smaller .ensures)) (rw one at (c .larger .ensures)))
+    let one = c .before .before .before .scale-of .ensures in (
+      omega (arith, l .inv .0),
+      range-next (now (s .args .held)) (s .args .at) (l .rater) (s .args .raters) (omega arith) (l .inv .0) (l .inv .1)
+          (rw one at (c .before .smaller .ensures)) (rw one at (c .larger .ensures)),
+    )
 
 returns : tie.Need-returns Inv-loop μ-loop
 returns c =

@@ -84,9 +84,11 @@ loop-again : tie.Need-loop-again Inv-loop μ-loop
 loop-again c =
     let r = c .before .before .before in
     let t = turn r in
-    let z = c .if1 .left in
-    (at t .loop .inv .0, rw (add-one (at t .loop .rater))
-    (goes _ _ _ (at t .loop .inv .1) (more t) (r .read-scale .last .1 .1 .0) _ (sym (fault-is r) ∙ z) (rw (starts (r .before .before)) at (r .read-scale .ensures .1 .0 z)) (kept r)))
+    let z = c .if1 .left in (
+      at t .loop .inv .0,
+      rw (add-one (at t .loop .rater))
+          (goes _ _ _ (at t .loop .inv .1) (more t) (r .read-scale .last .1 .1 .0) _ (sym (fault-is r) ∙ z) (rw (starts (r .before .before)) at (r .read-scale .ensures .1 .0 z)) (kept r)),
+    )
 
 returns-2 : tie.Need-returns-2 Inv-loop μ-loop
 returns-2 c =
