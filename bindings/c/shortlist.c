@@ -166,14 +166,16 @@ static void worked(void)
     const Scale *const chain[] = {&coarse, &perfect, &no_scale, &fine}, *const crossing[] = {&worst_apart, &best_apart};
     const Scale *const two_best[] = {&coarse, &fine_by_survivors, &worst_apart, &fine, &best_apart};
     const Scale *const equal_and_beaten[] = {&fine, &perfect, &fine_by_survivors};
-    const Scale *const one_of_two_beaten[] = {&worst_apart, &no_scale, &best_apart, &coarse}; /* the last by the third alone */
+    const Scale *const by_one_alone[] = {&worst_apart, &no_scale, &best_apart, &coarse}; /* the last is beaten by the third alone */
+    const Scale *const by_the_last[] = {&worst_apart, &best_apart, &worst_apart, &fine};
     lists(one, 1, 1);
     lists(equal, 3, 7);
     lists(chain, 4, 2);
     lists(crossing, 2, 3);
     lists(two_best, 5, 2 | 8);
     lists(equal_and_beaten, 3, 2);
-    lists(one_of_two_beaten, 4, 1 | 4);
+    lists(by_one_alone, 4, 1 | 4);
+    lists(by_the_last, 4, 8);
 }
 
 /* A scale of two grades over as many defaults as survivors: cutoff 1 misses so many defaults and turns away so many survivors. */
@@ -216,15 +218,18 @@ static void sixteen_raters(void)
     HOLDS(book_of(same, DESK_RATERS).length == MOST_BYTES);
 }
 
-/* A fault of the last rater, and one of another rater that comes later in the order or none, in buffers that are long enough or not. */
-static void of_last(const Scale *last, const Scale *other, uint32_t number)
+/* A fault of the first, the middle or the last of three raters, alone or beside one of another rater that comes later in the order, in buffers that
+ * are long enough or not. */
+static void of_any(const Scale *faulty, const Scale *other, uint32_t number)
 {
-    const Scale *const alone[] = {&fine, &coarse, last}, *const first[] = {other, &coarse, last}, *const middle[] = {&fine, other, last};
-    const Book books[] = {book_of(alone, 3), book_of(first, 3), book_of(middle, 3)};
-    for (size_t i = 0; i < COUNT(books); i++) {
-        refused(&books[i], 3, number);
-        refused(&books[i], DESK_RATERS, number);
-        refused(&books[i], 0, number);
+    for (size_t at = 0; at < 9; at++) {
+        const Scale *scales[] = {&fine, &coarse, &fine};
+        scales[at / 3] = other;
+        scales[at % 3] = faulty;
+        const Book book = book_of(scales, 3);
+        refused(&book, 3, number);
+        refused(&book, DESK_RATERS, number);
+        refused(&book, 0, number);
     }
 }
 
@@ -235,20 +240,20 @@ static void faults_of_raters(void)
         {&too_many_defaults, DESK_REFUSED_DEFAULTS}, {&too_high, DESK_REFUSED_ANNOUNCED}, {&falling, DESK_REFUSED_FALLING_RATE},
         {&nobody, DESK_REFUSED_NO_OBLIGORS}, {&too_large, DESK_REFUSED_OBLIGORS}};
     for (size_t i = 0; i < COUNT(rows); i++) {
-        of_last(rows[i].scale, &no_defaults, rows[i].number);
-        of_last(rows[i].scale, &no_survivors, rows[i].number);
-        of_last(rows[i].scale, &one_more_default, rows[i].number);
+        of_any(rows[i].scale, &no_defaults, rows[i].number);
+        of_any(rows[i].scale, &no_survivors, rows[i].number);
+        of_any(rows[i].scale, &one_more_default, rows[i].number);
         for (size_t j = 0; j < COUNT(rows); j++) {
             const Scale *const both[] = {&fine, rows[i].scale, rows[j].scale};
             const Book book = book_of(both, 3);
             refused(&book, 3, rows[i].number);
         }
     }
-    of_last(&no_defaults, &no_survivors, DESK_REFUSED_NO_DEFAULTS);
-    of_last(&no_defaults, &one_more_default, DESK_REFUSED_NO_DEFAULTS);
-    of_last(&no_survivors, &one_more_survivor, DESK_REFUSED_NO_SURVIVORS);
-    of_last(&one_more_default, &fine_by_survivors, DESK_REFUSED_UNLIKE);
-    of_last(&one_more_survivor, &fine_by_survivors, DESK_REFUSED_UNLIKE);
+    of_any(&no_defaults, &no_survivors, DESK_REFUSED_NO_DEFAULTS);
+    of_any(&no_defaults, &one_more_default, DESK_REFUSED_NO_DEFAULTS);
+    of_any(&no_survivors, &one_more_survivor, DESK_REFUSED_NO_SURVIVORS);
+    of_any(&one_more_default, &fine_by_survivors, DESK_REFUSED_UNLIKE);
+    of_any(&one_more_survivor, &fine_by_survivors, DESK_REFUSED_UNLIKE);
 }
 
 /* A byte of the layout changed, beside rows that would be refused. */

@@ -193,6 +193,15 @@ class Refusals(unittest.TestCase):
                     shortlist(book_of([('obligors', each) for each in (sound, rows, later)]))
                 self.assertEqual(raised.exception.number, number)
 
+    def test_every_reason_in_order(self) -> None:
+        """Those of the layout alone, else those of rows alone, else those of totals."""
+        def numbers(book: bytes) -> list[int]:
+            return [refusal.number for refusal in shortlist_refusals(book)]
+        rows = [('obligors', each) for each in (ROWS[11], ROWS[8], [(6, 0, 0)])]
+        self.assertEqual((numbers(book_of(rows)), numbers(book_of(rows)[:-1])), ([11, 8, 10], [2]))
+        self.assertEqual(numbers(book_of_scales([FINE, NO_SURVIVORS, NO_DEFAULTS])), [23, 24, 25])
+        self.assertEqual((numbers(book_of_scales([FINE, MORE_DEFAULTS])), numbers(book_of_scales([FINE, COARSE]))), ([25], []))
+
     def test_the_layout_before_all_rows(self) -> None:
         sound = book_of([('obligors', ROWS[8]), ('obligors', ROWS[9])])  # tables at bytes 8 and 36, 52 bytes
         for at, byte, number in ((2, 51, 2), (0, 0, 3), (0, 17, 3), (6, 35, 31), (36, 0, 6), (37, 2, 7), (39, 1, 7), (36, 2, 32)):
@@ -279,13 +288,14 @@ class Command(Case):
 
     def test_a_committee_by_name(self) -> None:
         """Counter is worse than Branch, which is worse than In-house; Vendor is equal to Branch, Bureau to In-house, and Agency crosses."""
-        path, names = example('committee.csv'), ('Branch', 'In-house', 'Counter', 'Agency', 'Bureau', 'Vendor')
+        path, names = example('committee.csv'), ('Branch', 'Agency', 'Counter', 'In-house', 'Bureau', 'Vendor')
         raters = [rater_of(example('committee.book'), number)._replace(file=path, name=name) for number, name in enumerate(names, 1)]
+        self.assertEqual(self.shortlisted([AGENCY, *raters], AGENCY.file, path)['listed'], [1, 3, 5, 6])
         data = self.shortlisted(raters, path)
-        self.assertEqual([(each['rater'], each['by']) for each in data['beaten']], [(1, 2), (3, 2), (6, 2)])
+        self.assertEqual([(each['rater'], each['by']) for each in data['beaten']], [(1, 4), (3, 4), (6, 4)])
         text = self.answered('shortlist', path).out
-        self.assertTrue(text.startswith(f'{path}: 6 raters; on the shortlist: 2 (In-house), 4 (Agency), 5 (Bureau)\n'), text)
-        for a, b, verdict in ((2, 1, 'first'), (1, 3, 'first'), (1, 6, 'equal'), (2, 5, 'equal'), (2, 4, 'crossing')):
+        self.assertTrue(text.startswith(f'{path}: 6 raters; on the shortlist: 2 (Agency), 4 (In-house), 5 (Bureau)\n'), text)
+        for a, b, verdict in ((4, 1, 'first'), (1, 3, 'first'), (1, 6, 'equal'), (4, 5, 'equal'), (4, 2, 'crossing'), (2, 1, 'crossing')):
             self.assertEqual(self.answered('compare', path, str(a), str(b), '--json').data()['verdict'], verdict)
 
     def test_the_first_listed_one_that_is_better_is_named(self) -> None:
@@ -310,6 +320,11 @@ class Command(Case):
             book = file.read()
         self.assertEqual(self.answered('shortlist', '-', '--json', stdin=book).data()['listed'], [2, 4, 5])
         self.assertIn('standard input is named twice', self.wrong('shortlist', '-', '-'))
+
+    def test_names_are_shown_plainly(self) -> None:
+        tables = ''.join(f'name,{name}\x1b[31m\n{csv_text([("obligors", rows)])}\n' for name, rows in (('A', [(2, 0, 0), (2, 1, 0)]), ('B', [(4, 1, 0)])))
+        text = self.answered('shortlist', self.put('a\x1b.csv', tables)).out
+        self.assertEqual((text.count('\x1b'), text.count('A\\x1b[31m'), text.count('B\\x1b[31m')), (0, 3, 2))
 
     def test_an_upside_down_one_among_them(self) -> None:
         self.assertEqual(self.of_scales(PERFECT, PERFECT[::-1])['listed'], [1])
@@ -398,8 +413,10 @@ class Messages(Case):
         self.assertEqual(ran.status, 1)
         self.assertEqual(ran.err.splitlines()[1:], ['desk: note: rater 3 has as many obligors as rater 1 has survivors (7): does its first column '
                                                    'count survivors?'])
-        percent = self.put('a.csv', 'obligors,defaults,announced\n100,1,1\n100,3,3\n100,11,10\n')
-        self.assertIn('look like percent', self.answered('shortlist', percent).err)
+        for rates, kind in ((('1', '3', '10'), 'unit'), (('1%', '3%', '10%'), 'reading')):
+            text = 'obligors,defaults,announced\n' + ''.join(f'100,{d},{rate}\n' for d, rate in zip((1, 3, 11), rates))
+            found = self.answered('shortlist', self.put('a.csv', text), '--json').data()['questions']
+            self.assertEqual([each['about'] for each in found], [kind])
 
     def test_totals_of_a_fault(self) -> None:
         """Those that are named have the totals that the definitions give."""

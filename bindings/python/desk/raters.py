@@ -50,9 +50,11 @@ def shortlist_refusals(book: bytes) -> Iterator[Refused]:
     except Refused as refusal:
         yield refusal
         return
-    faulty = [refusal for rater in range(1, len(found) + 1) for refusal in row_refusals(found, rater)]
-    yield from faulty
-    tables = [] if faulty else [Table.of_rows(table.counts, table.rows) for table in found]
+    of_rows = [refusal for rater in range(1, len(found) + 1) for refusal in row_refusals(found, rater)]
+    yield from of_rows
+    if of_rows:  # and no totals to look at
+        return
+    tables = [Table.of_rows(table.counts, table.rows) for table in found]
     for number in (23, 24, 25):
         raters = at_fault(number, tables)
         if raters:

@@ -77,8 +77,9 @@ fn say_beaten(book: &[u8], rater: u32, listed: &[u32]) -> Result<(), Refusal> {
         desk.load(Place::Second, book, rater)?;
         if let Verdict::First { second_dearer } = desk.compare()? {
             let Price { u, v } = second_dearer;
-            print!("Rater {rater} is not listed: rater {better} is better. At {u} for a missed default");
-            println!(" and {v} for a survivor turned away rater {rater} costs more.");
+            print!("Rater {rater} is not listed: rater {better} is better.");
+            print!(" At {u} for a missed default and {v} for a survivor turned away");
+            println!(" rater {rater} costs more.");
             break;
         }
     }
