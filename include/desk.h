@@ -1,5 +1,5 @@
-/* Compares credit rating scales: which of two over the same obligors is better, whatever prices are put on the mistakes, and which
- * of two over different books, by shares of their own defaults and survivors.
+/* Compares credit rating scales: which of two over the same obligors is better, whatever prices are put on the mistakes, which of
+ * two over different books, by shares of their own defaults and survivors, and which of all raters of a book no other one beats.
  * C11 or C++11, or later, on x86-64. Link with libdesk_c.a, which `rt staticlib desk_c` writes; where installed, with -ldesk.
  *
  * TERMS. A rating scale sorts its obligors into grades, best first. Of a grade's n obligors d defaulted and s = n - d survived;
@@ -53,9 +53,10 @@
  * version does not link: the linker reports desk_library_is_version_N as undefined, N being the number below. Then take
  * header and library of one version and compile again. Who loads the library at run time by hand, and so does not link with
  * it, defines DESK_LOADED_BY_HAND before this header and compares desk_version() with DESK_VERSION. */
-#define DESK_VERSION 7
+#define DESK_VERSION 8
 
 #define DESK_GRADES 40                       /* the most grades of a table */
+#define DESK_RATERS 16                       /* the most raters of a book, and room for whatever desk_shortlist writes */
 #define DESK_MAX_OBLIGORS 1000000            /* the most obligors of a table */
 #define DESK_MAX_OBLIGORS_ON_SHARES 100000   /* the most of a table that desk_compare_shares takes */
 #define DESK_MAX_PRICE 1000000               /* the highest price that desk_cheapest takes and desk_compare writes */
@@ -195,6 +196,16 @@ uint32_t desk_spread(const Desk *desk, uint32_t place, DeskSpread *answer) DESK_
  * Writes: the book, and its length to *written. Keeps: further bytes, the desk.
  * Refuses: 22 (both places empty), 13 (length under the book's). */
 uint32_t desk_write(const Desk *desk, uint8_t *book, size_t length, size_t *written) DESK_CHECKED;
+
+/* The shortlist of a whole book, for which no desk is needed: the raters for which no other rater of the book is better. Better means
+ * at least as good, as desk_compare has it, and not the reverse. Of raters that are equal, all are listed or none; every rater that
+ * is not listed is beaten by a listed one, and desk_compare of the two has prices that show it; so at least one is listed.
+ * Writes: the numbers of these raters, counted from 1, in book order, and how many they are to *listed. Keeps: further numbers, the
+ * book.
+ * Refuses: 2, 3; table by table 31 (start), 32 (header), 6, 7, 32 (rows); 33 (bytes left over); then rater by rater: of its rows, one
+ * by one, 8, 10, 34; 9 (all are empty); 11; then 23 (any rater), 24 (any rater), 25 (any two raters), 13 (room under R, also where
+ * fewer are listed). */
+uint32_t desk_shortlist(const uint8_t *book, size_t length, uint32_t *numbers, size_t room, size_t *listed) DESK_CHECKED;
 
 /* desk_library_is_version_N, which a library of another version does not have. */
 #define DESK_PASTE(name, version) name##version

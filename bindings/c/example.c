@@ -1,11 +1,13 @@
 /* example [--shares] BOOK BOOK [RATER RATER]: says which of two rating scales over the same obligors is better; with --shares, of two over
- * different books. */
+ * different books. example --shortlist BOOK: says which raters of a book no other one beats. */
 #include "desk.h"
 #include <inttypes.h>
 #include <stdbool.h>
 #include <stdio.h>
 #include <stdlib.h>
 #include <string.h>
+
+typedef struct Book { uint8_t bytes[65536]; size_t length; } Book; /* room for one byte more than a book can have */
 
 static void accept_or_exit(const char *what, uint32_t refusal)
 {
@@ -37,27 +39,36 @@ static void say_cut(uint32_t refusal, DeskWrongCut cut)
     }
 }
 
-static void load(Desk *desk, uint32_t place, const char *path, const char *rater)
+static void read_book(const char *path, Book *book)
 {
-    DeskWrongCut cut;
-    static uint8_t book[65536]; /* one byte more than a book can have */
-    unsigned long number = strtoul(rater, NULL, 10);
     FILE *file = fopen(path, "rb");
     if (file == NULL) {
         perror(path);
         exit(1);
     }
-    size_t length = fread(book, 1, sizeof book, file);
+    book->length = fread(book->bytes, 1, sizeof book->bytes, file);
     fclose(file);
-    const uint32_t refusal = desk_load(desk, place, book, length, number <= UINT32_MAX ? (uint32_t)number : 0);
+}
+
+static void accept_book_or_exit(const char *path, const Book *book, uint32_t refusal)
+{
+    DeskWrongCut cut;
     if (refusal != 0) {
         fprintf(stderr, "%s: refused %" PRIu32 ": %s", path, refusal, desk_meaning(refusal));
-        if (desk_wrong_cut(book, length, &cut) == refusal) {
+        if (desk_wrong_cut(book->bytes, book->length, &cut) == refusal) {
             say_cut(refusal, cut);
         }
         fputc('\n', stderr);
         exit(1);
     }
+}
+
+static void load(Desk *desk, uint32_t place, const char *path, const char *rater)
+{
+    static Book book;
+    unsigned long number = strtoul(rater, NULL, 10);
+    read_book(path, &book);
+    accept_book_or_exit(path, &book, desk_load(desk, place, book.bytes, book.length, number <= UINT32_MAX ? (uint32_t)number : 0));
 }
 
 static void say_costs(const Desk *desk, DeskPrice price)
@@ -96,13 +107,59 @@ static void compare(const Desk *desk, bool on_shares)
     }
 }
 
+static DeskVerdict verdict_on(const Book *book, uint32_t first, uint32_t second)
+{
+    Desk desk;
+    DeskVerdict verdict;
+    desk_empty(&desk);
+    accept_or_exit("first rater", desk_load(&desk, 1, book->bytes, book->length, first));
+    accept_or_exit("second rater", desk_load(&desk, 2, book->bytes, book->length, second));
+    accept_or_exit("compare", desk_compare(&desk, &verdict));
+    return verdict;
+}
+
+/* Of a rater that is not listed: the first listed one that is better, and prices that show it. */
+static void say_beaten(const Book *book, uint32_t rater, const uint32_t *numbers, size_t listed)
+{
+    for (size_t i = 0; i < listed; i++) {
+        const DeskVerdict verdict = verdict_on(book, numbers[i], rater);
+        if (verdict.kind == DESK_FIRST) {
+            const DeskPrice price = verdict.second_dearer;
+            printf("Rater %" PRIu32 " is not listed: rater %" PRIu32 " is better. At %" PRIu32 " for a missed default", rater, numbers[i], price.u);
+            printf(" and %" PRIu32 " for a survivor turned away rater %" PRIu32 " costs more.\n", price.v, rater);
+            return;
+        }
+    }
+}
+
+static void say_shortlist(const char *path)
+{
+    static Book book;
+    uint32_t numbers[DESK_RATERS];
+    size_t listed, said = 0;
+    read_book(path, &book);
+    accept_book_or_exit(path, &book, desk_shortlist(book.bytes, book.length, numbers, DESK_RATERS, &listed));
+    for (uint32_t rater = 1; rater <= book.bytes[0]; rater++) { /* an accepted book has 1 to 16 */
+        if (said < listed && numbers[said] == rater) {
+            printf("Rater %" PRIu32 " is listed.\n", rater);
+            said++;
+        } else {
+            say_beaten(&book, rater, numbers, listed);
+        }
+    }
+}
+
 int main(int count, char **words)
 {
+    if (count == 3 && strcmp(words[1], "--shortlist") == 0) {
+        say_shortlist(words[2]);
+        return 0;
+    }
     const bool on_shares = count > 1 && strcmp(words[1], "--shares") == 0;
     char **const books = words + (on_shares ? 2 : 1), **const raters = books + 2;
     const int given = count - (on_shares ? 2 : 1);
     if (given != 2 && given != 4) {
-        fprintf(stderr, "usage: %s [--shares] BOOK BOOK [RATER RATER]\n", words[0]);
+        fprintf(stderr, "usage: %s [--shares] BOOK BOOK [RATER RATER], or %s --shortlist BOOK\n", words[0], words[0]);
         return 2;
     }
     Desk desk;

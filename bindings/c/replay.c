@@ -1,7 +1,7 @@
 /* Runs a script of calls from standard input on one desk and prints each answer: the program `replay` of this repository,
  * but through the C interface. A script is a list of commands; a command is an operation number and its operands, each
- * 4 bytes wide, little-endian, and behind those of load the book. A command that cannot be read ends the program with
- * the line `end`. */
+ * 4 bytes wide, little-endian, and behind those of load and shortlist the book. A command that cannot be read ends the
+ * program with the line `end`. */
 #include "desk.h"
 
 #include <inttypes.h>
@@ -10,7 +10,7 @@
 #include <stdlib.h>
 #include <string.h>
 
-enum { MAX_POOL_LENGTH = 512, MAX_WRITE_LENGTH = 8192, MAX_BOOK_LENGTH = 65535 };
+enum { MAX_NUMBERS = 512, MAX_WRITE_LENGTH = 8192, MAX_BOOK_LENGTH = 65535 };
 
 static bool read_number(uint32_t *number)
 {
@@ -38,6 +38,20 @@ static void *lend(size_t size, int value)
     return memset(lent, value, size);
 }
 
+/* The book of a command, to be freed, which its length precedes; NULL where it cannot be read. */
+static uint8_t *read_book(uint32_t *length)
+{
+    if (!read_length(length, MAX_BOOK_LENGTH)) {
+        return NULL;
+    }
+    uint8_t *book = lend(*length, 0);
+    if (fread(book, 1, *length, stdin) == *length) {
+        return book;
+    }
+    free(book);
+    return NULL;
+}
+
 /* The operation's name, and whether it was accepted. */
 static bool say(const char *operation, uint32_t refusal)
 {
@@ -47,6 +61,13 @@ static bool say(const char *operation, uint32_t refusal)
         printf("%s refused %" PRIu32, operation, refusal);
     }
     return refusal == 0;
+}
+
+static void say_numbers(const uint32_t *numbers, uint32_t length)
+{
+    for (uint32_t i = 0; i < length; i++) {
+        printf(" %" PRIu32, numbers[i]);
+    }
 }
 
 static void say_price(DeskPrice price)
@@ -72,16 +93,13 @@ static void say_bits(double value)
 static bool load(Desk *desk)
 {
     uint32_t place, rater, length;
-    if (!read_number(&place) || !read_number(&rater) || !read_length(&length, MAX_BOOK_LENGTH)) {
+    uint8_t *book;
+    if (!read_number(&place) || !read_number(&rater) || (book = read_book(&length)) == NULL) {
         return false;
     }
-    uint8_t *book = lend(length, 0);
-    bool whole = fread(book, 1, length, stdin) == length;
-    if (whole) {
-        say("load", desk_load(desk, place, book, length, rater));
-    }
+    say("load", desk_load(desk, place, book, length, rater));
     free(book);
-    return whole;
+    return true;
 }
 
 static bool clear(Desk *desk)
@@ -97,14 +115,12 @@ static bool clear(Desk *desk)
 static bool pool(Desk *desk)
 {
     uint32_t place, length;
-    if (!read_number(&place) || !read_length(&length, MAX_POOL_LENGTH)) {
+    if (!read_number(&place) || !read_length(&length, MAX_NUMBERS)) {
         return false;
     }
     uint32_t *numbers = lend(length * sizeof *numbers, 0xAA);
     say("pool", desk_pool(desk, place, numbers, length));
-    for (uint32_t i = 0; i < length; i++) {
-        printf(" %" PRIu32, numbers[i]);
-    }
+    say_numbers(numbers, length);
     free(numbers);
     return true;
 }
@@ -216,8 +232,28 @@ static bool write_book(Desk *desk)
     return true;
 }
 
+static bool shortlist(Desk *desk)
+{
+    uint32_t room, length;
+    uint8_t *book;
+    if (!read_length(&room, MAX_NUMBERS) || (book = read_book(&length)) == NULL) {
+        return false;
+    }
+    uint32_t *numbers = lend(room * sizeof *numbers, 0xAA);
+    size_t listed;
+    if (say("shortlist", desk_shortlist(book, length, numbers, room, &listed))) {
+        printf(" %zu", listed);
+    }
+    say_numbers(numbers, room);
+    free(numbers);
+    free(book);
+    (void)desk; /* plays no part */
+    return true;
+}
+
 /* The operations by their numbers, from 1. */
-static bool (*const operations[])(Desk *) = {load, clear, pool, cheapest, compare, measures, brier, spread, write_book, compare_shares};
+static bool (*const operations[])(Desk *) = {load,  clear,  pool,       cheapest,       compare,  measures,
+                                             brier, spread, write_book, compare_shares, shortlist};
 
 static bool run_command(Desk *desk)
 {

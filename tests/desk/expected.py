@@ -4,6 +4,7 @@ from __future__ import annotations
 from fractions import Fraction
 from typing import Any, Sequence
 
+from common import Scale as Rows
 from scales import Scale
 from definitions import Grades, brier, cheapest, decimal, measures, measures_refusal, pooled, repeats, totals
 from test_ranges import expected as ranges_by_definition
@@ -90,6 +91,29 @@ def compare_data(first: Scale, second: Scale, prices: Sequence[tuple], separatin
             'separating': [costs_data(first, second, price, shares) for price in separating],
             'prices': [costs_data(first, second, price, shares) for price in prices],
             'measures': {'first': measures_data(first.grades), 'second': measures_data(second.grades)}}
+
+
+# shortlist
+
+def is_better(one: Rows, other: Rows) -> bool:
+    """R-7: "better means at least as good, and not the reverse"."""
+    return {each.cheaper for each in ranges_by_definition(one, other)} - {'both'} == {'first'}
+
+
+def shortlist_by_definition(raters: Sequence[Rows]) -> list[int]:
+    """R-7: "the raters for which no other rater of the book is better, in book order"."""
+    return [number for number, rater in enumerate(raters, 1) if not any(is_better(other, rater) for other in raters)]
+
+
+def shortlist_data(raters: Sequence[Scale], prices: Sequence[tuple]) -> dict[str, Any]:
+    """The whole answer. The prices at which a rater costs more than the first listed one that is better are free, so that they are given."""
+    rows = [[(n, d) for n, d, _ in rater.grades] for rater in raters]
+    listed = shortlist_by_definition(rows)
+    beaten = [(number, next(better for better in listed if is_better(rows[better - 1], rows[number - 1])))
+              for number in range(1, len(raters) + 1) if number not in listed]
+    return {'command': 'shortlist', 'raters': [{**line_data(rater), 'number': number} for number, rater in enumerate(raters, 1)], 'listed': listed,
+            'beaten': [{'rater': number, 'by': better, 'costs': costs_data(raters[better - 1], raters[number - 1], price)}
+                       for (number, better), price in zip(beaten, prices)]}
 
 
 # show

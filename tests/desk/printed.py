@@ -1,4 +1,4 @@
-"""Reads what `desk compare` and `desk show` print back into the figures that their JSON has."""
+"""Reads what `desk compare`, `desk shortlist` and `desk show` print back into the figures that their JSON has."""
 from __future__ import annotations
 
 from fractions import Fraction
@@ -96,6 +96,19 @@ def compared(text: str) -> dict[str, Any]:
             'costs': [{**price(at), 'first': cutoff(a), 'second': cutoff(b), 'cheaper': who(cheaper, names)}
                       for at, a, b, cheaper in costs],
             'headings': cells(parts[-1][0]), 'measures': dict(zip(('first', 'second'), measures(parts[-1][1:7], 2))), 'about': parts[-1][7:]}
+
+
+# shortlist
+
+def shortlisted(text: str) -> dict[str, Any]:
+    """All raters: each a list of its cells; and what both cost where one is not listed, the better one's cost first."""
+    parts = sections(text)
+    files, count, listed = re.fullmatch(r'(.*): (\d+) raters?; on the shortlist: (.*)', parts[0][0]).groups()
+    raters, beaten = parts[1][1:int(count) + 1], [cells(line) for line in parts[3][1:]] if len(parts) > 3 else []
+    return {'files': files, 'count': int(count), 'listed': listed.split(', '), 'heading': cells(parts[1][0]),
+            'raters': [cells(line) for line in raters], 'about': parts[1][len(raters) + 1:],
+            'beaten': [{'rater': rater, 'by': by, 'costs': {**price(at), 'first': cutoff(better), 'second': cutoff(own)}}
+                       for rater, by, at, better, own in beaten]}
 
 
 # show

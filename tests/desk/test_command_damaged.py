@@ -1,6 +1,6 @@
 """Gives 20,000 random and damaged books and CSV files to the command. It answers, refuses or says what is wrong; it is never at fault.
 
-What it refuses in a book is what the library answers to the load of the same bytes.
+What it refuses in a book is what the library answers to the load, or to the shortlist, of the same bytes.
 
     python3 tests/desk/test_command_damaged.py      # from anywhere
 """
@@ -20,7 +20,7 @@ sys.path.insert(0, os.path.dirname(os.path.abspath(__file__)))
 from running import LIBRARY, Case, Ran, ask, book_of, content_of, csv_text, example, examples  # noqa: E402
 from common import exchanged, in_order  # noqa: E402
 from csv_dress import Dress, damaged  # noqa: E402
-from desk import Desk, Refused  # noqa: E402
+from desk import Desk, Refused, shortlist  # noqa: E402
 from desk.command import main  # noqa: E402
 from desk.command.csv_file import is_text  # noqa: E402
 
@@ -109,6 +109,17 @@ class Books(Damaged):
         else:
             self.assertEqual((ran.status, ran.out, self.first_number(ran)), (1, '', refusal), book)
 
+    def of_list(self, book: bytes, path: str) -> None:
+        """`shortlist`: the library's own answer to the whole book."""
+        ran = self.asked('shortlist', path)
+        try:
+            listed, refusal = shortlist(book, LIBRARY), None
+        except Refused as refused:
+            listed, refusal = [], refused.number
+        self.assertEqual((ran.status, self.first_number(ran)), (1, refusal) if refusal else (0, None), book)
+        told = re.match(r'.*; on the shortlist: (.*)', ran.out)
+        self.assertEqual(re.findall(r'(\d+) \(', told[1]) if told else [], [str(number) for number in listed])
+
     def of_all(self, book: bytes, path: str, raters: int) -> None:
         """`unpack`: the first of all raters that load refuses. What is unpacked is packed to the same book."""
         out = self.path('out.csv')
@@ -132,13 +143,15 @@ class Books(Damaged):
                 self.assertEqual(self.asked('show', path).status, 1)
                 continue
             seen[load_refusal(book, rater)] += 1
-            how = source.randrange(5)
+            how = source.randrange(6)
             if how == 0:
                 self.of_one(book, path, rater)
             elif how == 1:
                 self.of_two(book, path, (rater, other))
             elif how == 2:
                 self.of_all(book, path, raters)
+            elif how == 3:
+                self.of_list(book, path)
             else:
                 others = ('show', path), ('compare', path), ('pack', path, '-o', self.path('none')), ('show', path, '99')
                 self.asked(*source.choice(others))
@@ -153,7 +166,7 @@ class Texts(Damaged):
         path = self.put('a.csv', content)
         words = source.choice((('show', path), ('show', path, '1'), ('show', path, 'In-house'), ('compare', path), ('compare', path, path),
                                ('compare', path, '1', '2', '--prices', '3:1'), ('compare', path, '--shares', '--prices', '3:1'),
-                               ('unpack', path), ('pack',), ('pack',)))
+                               ('shortlist', path), ('unpack', path), ('pack',), ('pack',)))
         if words != ('pack',):
             return self.asked(*words).status
         book = self.path('out.book')
@@ -194,7 +207,7 @@ class Texts(Damaged):
         for _ in range(500):
             some = source.choice((range(256), b'01,;"\n%.\t ', b'\xff\xfe\0\n1,', b'\0\1\2\3\6'))
             path = self.put('a', bytes(source.choices(some, k=source.randint(0, 60))))
-            for words in (('show', path), ('unpack', path), ('compare', path, path)):
+            for words in (('show', path), ('unpack', path), ('compare', path, path), ('shortlist', path)):
                 self.asked(*words)
 
 

@@ -37,6 +37,8 @@ class Answers(Case):
                   ('compare', example('refusals.book'), '1', '4'), ('compare', upside_down, upside_down), ('compare', wrong_column),
                   ('compare', none, none), ('compare', example('lenders.book'), '1', '2', '--shares', '--prices', '7:8'),
                   ('compare', example('lenders.book'), '3', '2', '--shares'), ('compare', wrong_column, '--shares')]
+        asked += [('shortlist', example('committee.csv')), ('shortlist', example('committee.book')), ('shortlist', example('k.book')),
+                  ('shortlist', example('lenders.book')), ('shortlist', wrong_column), ('shortlist', upside_down, none)]
         asked += [('show', book) for book in books] + [('show', example('refusals.book'), str(number)) for number in (1, 2, 3, 5)]
         asked += [('show', example('agencies.book'), '1'), ('show', example('agencies.book'), '1', '--repeated'),
                   ('show', upside_down), ('show', total), ('show', example('inhouse.csv')), ('show', none), ('unpack', example('k.book')),

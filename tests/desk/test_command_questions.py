@@ -181,6 +181,7 @@ class Everywhere(Asking):
         path = self.put('a.csv', self.WITH_TOTAL)
         self.assertEqual(self.kinds('show', path), ['total'])
         self.assertEqual(self.kinds('compare', path, path), ['total', 'total'])
+        self.assertEqual(self.kinds('shortlist', path, path), ['total', 'total'])
         self.assertEqual(self.kinds('pack', path, '-o', self.path('a.book')), ['total'])
         self.assertEqual(self.kinds('unpack', self.path('a.book')), ['total'])
         self.assertEqual(self.kinds('show', self.put('b.csv', self.WITH_TOTAL + '\n' + self.WITH_TOTAL)), ['total', 'total'])

@@ -46,14 +46,14 @@ class Numbers(Converting):
     def test_of_a_book(self) -> None:
         for number, content in FROM_A_BOOK.items():
             path = self.put('a.book', content)
-            for words in (('show', path), ('show', path, '1'), ('compare', path), ('compare', path, path), ('unpack', path)):
+            for words in (('show', path), ('show', path, '1'), ('compare', path), ('compare', path, path), ('shortlist', path), ('unpack', path)):
                 self.seen(number, *words)
 
     def test_where_a_book_is_cut_wrong(self) -> None:
         for name, (number, where) in CUT_WRONG.items():
             path = example(f'cut_wrong/{name}.book')
             for words in (('show', path), ('show', path, '2'), ('compare', path), ('compare', example('h.book'), path, '1', '1'),
-                          ('unpack', path)):
+                          ('shortlist', path), ('unpack', path)):
                 self.seen(number, *words)
                 self.assertEqual(self.refused(number, *words), [f'desk: refused {number}: {WORDS[number]}; {path}: {where}'])
             self.assertRegex(REFUSALS, rf'(?m)^\| `{name}.book` \| {number} \| .* \| {re.escape(where)} \|$')
@@ -67,17 +67,18 @@ class Numbers(Converting):
         for number, rows in ROWS.items():
             tables = [('obligors', rows)]
             book, text = self.put('a.book', book_of(tables)), self.put('a.csv', csv_text(tables))
-            for words in (('show', book), ('compare', book, book), ('unpack', book), ('show', text), ('compare', text, book),
-                          ('pack', text, '-o', self.path('out'))):
+            for words in (('show', book), ('compare', book, book), ('shortlist', book), ('unpack', book), ('show', text), ('compare', text, book),
+                          ('shortlist', text), ('pack', text, '-o', self.path('out'))):
                 self.seen(number, *words)
 
     def test_of_csv(self) -> None:
         for number, content in FROM_CSV.items():
             path = self.put('a.csv', content)
-            for words in (('show', path), ('compare', path, path), ('pack', path, '-o', self.path('out'))):
+            for words in (('show', path), ('compare', path, path), ('shortlist', path), ('pack', path, '-o', self.path('out'))):
                 self.seen(number, *words)
         many = self.put('many.csv', csv_text([('obligors', [(1, 0, 0)])] * 17))
         self.seen(3, 'pack', many, '-o', self.path('out'))
+        self.seen(3, 'shortlist', many)
 
     def test_of_prices(self) -> None:
         self.seen(12, 'compare', example('h.book'), '--prices', '1000001:1')
@@ -87,6 +88,7 @@ class Numbers(Converting):
             path = self.put('a.book', book_of([('obligors', each) for each in rows]))
             self.seen(number, 'compare', path)
             self.seen(number, 'compare', path, '2', '1')
+            self.seen(number, 'shortlist', path)
         for number, rows in ON_SHARES.items():
             path = self.put('a.book', book_of([('obligors', each) for each in rows]))
             self.seen(number, 'compare', path, '--shares')

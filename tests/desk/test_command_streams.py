@@ -19,16 +19,16 @@ from converting import OBLIGORS  # noqa: E402
 from desk.command.main import command_line  # noqa: E402
 
 FULL = os.strerror(errno.ENOSPC)
-ANSWERED = (('compare', example('h.book')), ('compare', example('lenders.book'), '1', '2', '--shares'), ('show', example('k.book')),
-            ('show', example('portfolio.book')), ('unpack', example('k.book')), ('refusals',), ('refusals', '25'), ('--help',),
-            ('--version',), ('compare', '--help'))
+ANSWERED = (('compare', example('h.book')), ('compare', example('lenders.book'), '1', '2', '--shares'), ('shortlist', example('committee.csv')),
+            ('show', example('k.book')), ('show', example('portfolio.book')), ('unpack', example('k.book')), ('refusals',), ('refusals', '25'),
+            ('--help',), ('--version',), ('compare', '--help'))
 REFUSED = (('compare', example('refusals.book'), '1', '4'), ('compare', example('lenders.book'), '1', '3', '--shares'),
-           ('show', example('refusals.book'), '5'), ('unpack', example('refusals.book')))
+           ('shortlist', example('lenders.book')), ('show', example('refusals.book'), '5'), ('unpack', example('refusals.book')))
 PARTLY = (('show', example('refusals.book')), ('show', example('refusals.book'), '2'))  # something is refused, the rest answered
-WRONG = ((), ('compare',), ('turn', 'a'), ('show', example('none.book')), ('compare', example('k.book')), ('refusals', '14'),
+WRONG = ((), ('compare',), ('shortlist',), ('turn', 'a'), ('show', example('none.book')), ('compare', example('k.book')), ('refusals', '14'),
          ('show', 'a', 'b', 'c'), ('pack', example('k.csv')), ('compare', example('h.book'), '--prices', 'x'),
          ('show', example('k.book'), '--nothing'))
-COMMANDS = ('compare', 'show', 'pack', 'unpack', 'report', 'refusals', 'build')
+COMMANDS = ('compare', 'shortlist', 'show', 'pack', 'unpack', 'report', 'refusals', 'build')
 
 
 class Status(Case):
@@ -76,7 +76,7 @@ class Status(Case):
 class Help(Case):
     def test_of_all_commands(self) -> None:
         text = ask('--help').out
-        self.assertEqual(re.findall('^    ([a-z]+) ', text, re.M), list(COMMANDS))
+        self.assertEqual(re.findall('^    ([a-z]+)(?: |$)', text, re.M), list(COMMANDS))
         for command in COMMANDS:
             ran = ask(command, '--help')
             self.assertEqual((ran.status, ran.err), (0, ''))

@@ -90,9 +90,17 @@ class Examples(Case):
             self.assertEqual(books.encoded(tables), file_bytes(EXAMPLES, f'{name}.book'), name)
 
     def test_they_can_be_written_again(self):
+        """But for the names of raters."""
         for name in self.names():
             content = file_bytes(EXAMPLES, f'{name}.csv')
-            self.assertEqual(plain(self.taken(content)).encode(), content, name)
+            self.assertEqual(plain(self.taken(content)).encode(), re.sub(b'(?m)^name,.*\n', b'', content), name)
+
+    def test_the_names_of_a_committee(self):
+        sheets = self.taken(file_bytes(EXAMPLES, 'committee.csv'))
+        self.assertEqual([sheet.name for sheet in sheets], ['Branch', 'Agency', 'Counter', 'In-house', 'Bureau', 'Vendor'])
+        for at, file in ((1, 'agency.csv'), (3, 'inhouse.csv')):
+            same, = self.taken(file_bytes(EXAMPLES, file))
+            self.assertEqual((same.name, same.counts, same.rows), (sheets[at].name, sheets[at].counts, sheets[at].rows))
 
     def test_books_are_told_from_texts(self):
         for name in os.listdir(EXAMPLES):

@@ -26,6 +26,7 @@ TYPES = {'uint8_t': c_uint8, 'uint32_t': c_uint32, 'int64_t': c_int64, 'size_t':
 REFUSED = {'desk_empty': [], 'desk_load': [1, 21, 2, 3, 4, 31, 32, 6, 7, 32, 33, 8, 10, 34, 9, 11], 'desk_clear': [1, 22],
            'desk_pool': [1, 22, 13], 'desk_cheapest': [1, 22, 12], 'desk_compare': [22, 23, 24, 25], 'desk_compare_shares': [22, 23, 24, 35],
            'desk_measures': [1, 22, 23, 24], 'desk_brier': [1, 22], 'desk_spread': [1, 22], 'desk_write': [22, 13],
+           'desk_shortlist': [2, 3, 31, 32, 6, 7, 32, 33, 8, 10, 34, 9, 11, 23, 24, 25, 13],
            'desk_book': [6, 7, 8, 10, 34, 9, 11], 'desk_load_rows': [1, 21, 6, 7, 8, 10, 34, 9, 11], 'desk_wrong_cut': []}
 
 
@@ -91,6 +92,7 @@ class Header(unittest.TestCase):
     def test_limits(self) -> None:
         most = ('obligors', [(1, 0, 0)] * table.MAX_GRADES)
         self.assertEqual(NUMBERS, {'DESK_VERSION': int(read('VERSION')), 'DESK_GRADES': table.MAX_GRADES,
+                                   'DESK_RATERS': book.MAX_RATERS,
                                    'DESK_MAX_OBLIGORS': table.MAX_OBLIGORS, 'DESK_MAX_PRICE': 1_000_000,
                                    'DESK_MAX_OBLIGORS_ON_SHARES': table.MAX_OBLIGORS_ON_SHARES,
                                    'DESK_MAX_PRICE_ON_SHARES': 2_500_000_000,

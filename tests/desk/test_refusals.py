@@ -26,6 +26,7 @@ NO_RATERS = (0, 3, 257, 2 ** 32 - 1, 2 ** 32 + 1, 2 ** 64 + 2, 10 ** 5000, -1, 1
 NO_PRICES = (1_000_001, 2 ** 32 - 1, 2 ** 32, 2 ** 32 + 5, 2 ** 64 + 1, 10 ** 5000)
 # Two raters of one and two grades. Bytes 0 raters, 2 length, 4 and 6 offsets, 8 table 1 (rows from 12), 24 table 2 (rows from 28 and 40).
 PAIR = encoded([(0, [(5, 1, 7)]), (1, [(5, 1, 7), (6, 0, 8)])])
+LISTED = encoded([(0, [(12, 1, 7)]), (1, [(5, 1, 7), (6, 0, 8)])])  # both of which have a shortlist
 
 
 def put(book: bytes, *changes: tuple[int, str, int]) -> bytes:
@@ -307,6 +308,8 @@ class Watch(unittest.TestCase):
                                    ('write', 3, -8), ('compare', 1, 20), ('compare_shares', 1, 20), ('brier', 2, 16), ('measures', 2, 88),
                                    ('spread', 2, -1), ('cheapest', 4, 16)):
             self.see(f'desk_{name}', beside(argument, at), lambda desk: getattr(desk, name)(*calls[name]))
+        for argument, at in ((0, len(LISTED)), (0, -1), (0, 0), (2, 64), (2, -1), (4, 8), (4, -8)):  # also within the book, which is read
+            self.see('desk_shortlist', beside(argument, at), lambda desk: desk.shortlist_into(LISTED, (c_uint32 * 16)()))
 
     def test_a_question_that_changes_the_desk(self) -> None:
         for at in (0, 487, 488, 975):
@@ -334,7 +337,9 @@ class Watch(unittest.TestCase):
                                      ('desk_clear', 0, lambda desk: desk.clear(3)), ('desk_pool', 2, lambda desk: desk.pool(3)),
                                      ('desk_cheapest', 4, lambda desk: desk.cheapest(3, 1, 1)),
                                      ('desk_measures', 2, lambda desk: desk.measures(3)),
-                                     ('desk_write', 1, lambda desk: desk.write_into((c_ubyte * 9)()))):
+                                     ('desk_write', 1, lambda desk: desk.write_into((c_ubyte * 9)())),
+                                     ('desk_shortlist', 2, lambda desk: desk.shortlist_into(LISTED, (c_uint32 * 1)())),
+                                     ('desk_shortlist', 4, lambda desk: desk.shortlist_into(b'', (c_uint32 * 1)()))):
             self.see(name, wrong(argument), refused(call))
 
 

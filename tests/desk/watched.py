@@ -1,21 +1,24 @@
 """A desk that is watched: its image stands between guards, and whatever else a call lends is moved between guards for the call.
 
 After each call the guards are whole; a refusal has changed nothing; only load and clear have changed the desk, and only in their place;
-a book that is read is as it was. What is found otherwise raises Violated.
+a book that is read is as it was. A shortlist, to which no desk is lent, is watched through one whose places it has to leave alone. What is
+found otherwise raises Violated.
 """
 from __future__ import annotations
 
 from ctypes import Array, Structure, addressof, byref, c_size_t, memmove, sizeof
 from functools import partial
 from typing import Callable
+import unittest.mock
 
 import common  # noqa: F401  (where the module stands)
-from desk import Desk, library
+from desk import Desk, library, shortlist_into
 from desk.desk import accept
 
 GUARD = bytes(range(129, 193)) * 16  # nothing that a call is likely to write, and more than any call writes
 BEFORE = b'\xaa'  # what an answer holds before it is written
 CHANGES = ('desk_load', 'desk_clear')  # the calls that may change a place
+NO_DESK = ('desk_shortlist',)  # the calls that no desk is lent to; the first that they are lent is a book to read
 
 
 class Violated(Exception):
@@ -70,14 +73,15 @@ class WatchedLibrary:
         found = getattr(self._real, name)
         return partial(self._watched, name, found) if name in library.FUNCTIONS else found
 
-    def _watched(self, name: str, function: Callable[..., int], image: object, *arguments: object) -> int:
-        if getattr(image, '_obj', None) is not self._image.object:
+    def _watched(self, name: str, function: Callable[..., int], *arguments: object) -> int:
+        image, arguments = ((), arguments) if name in NO_DESK else (arguments[:1], arguments[1:])
+        if image and getattr(image[0], '_obj', None) is not self._image.object:
             raise Violated(f'{name}: not the image of this desk')
         before, given = self._image.content(), [moved(argument) for argument in arguments]
-        refusal = function(image, *(each.argument if isinstance(each, Lent) else each for each in given))
-        for each in given:
+        refusal = function(*image, *(each.argument if isinstance(each, Lent) else each for each in given))
+        for at, each in enumerate(given):
             if isinstance(each, Lent):
-                if each.changed() and (refusal or name in CHANGES):
+                if each.changed() and (refusal or name in CHANGES or name in NO_DESK and at == 0):
                     raise Violated(f'{name}, number {refusal}, wrote into {each.memory!r}')
                 each.give_back()
         self._see_image(name, refusal, arguments[:1], before)
@@ -100,3 +104,8 @@ class WatchedDesk(Desk):
         self._image = self.memory.object
         self._library = WatchedLibrary(self._library, self.memory)
         accept(self._library.desk_empty(byref(self._image)))
+
+    def shortlist_into(self, book: bytes, numbers: Array) -> int:
+        """The module's, by the watched library."""
+        with unittest.mock.patch.object(library, 'load', lambda _: self._library):
+            return shortlist_into(book, numbers)

@@ -53,6 +53,7 @@ fn main() {
     desk.load_table(Place::First, &Table::by_obligors().grade(5, 2, 400_000).grade(1, 1, 1_000_000)).unwrap();
     desk.load_table(Place::Second, &Table::by_survivors().grade(2, 0, 0).grade(1, 3, 750_000)).unwrap();
     println!("{}", desk.compare().unwrap());
+    assert_eq!(desk::shortlist(&desk.write().unwrap()).unwrap(), [1, 2]);
 }
 '''
 IN_PYTHON = '''\
@@ -63,6 +64,7 @@ two = Desk()
 two.load(1, Table(obligors=[5, 1], defaults=[2, 1], announced=[400_000, 1_000_000]))
 two.load(2, Table(survivors=[2, 1], defaults=[0, 3], announced=[0, 750_000]))
 print(two.compare())
+assert desk.shortlist(two.write()) == [1, 2]
 '''
 
 
@@ -115,6 +117,14 @@ class Programs(Stranger):
             program = self.build(compiler, archive=True)
             self.assertEqual(self.done(program), PRINTED)
             self.assertEqual(self.libraries_of(program), [])
+
+    @needs('gcc', 'pkg-config')
+    def test_the_example_on_a_book(self) -> None:
+        shutil.copy(self.installed('share', 'doc', 'desk', 'example.c'), self.folder)
+        ended = self.by_pkg_config(' '.join(['gcc', *STRICT, '-std=c11', 'example.c', '-o', 'program']))
+        self.assertEqual((ended.returncode, ended.stderr), (0, ''))
+        said = self.done('./program', '--shortlist', self.installed('share', 'doc', 'desk', 'examples', 'committee.book'), **self.loading)
+        self.assertEqual(re.findall(r'^Rater (\d) is listed\.$', said, re.M), ['2', '4', '5'])
 
     @needs('gcc', 'pkg-config')
     def test_what_pkg_config_says(self) -> None:
@@ -174,6 +184,7 @@ class Command(Stranger):
         book = self.installed('share', 'doc', 'desk', 'examples', 'k.book')
         self.assertTrue(self.ask('report', book).endswith('gini 10 231\n'))
         self.assertIn('10/231', self.ask('show', book))
+        self.assertIn('; on the shortlist: 2 (Agency), 4 (In-house), 5 (Bureau)\n', self.ask('shortlist', book.replace('k.book', 'committee.csv')))
         self.ask('unpack', book, '-o', 'k.csv')
         self.ask('pack', 'k.csv', '-o', 'k.book')
         self.assertEqual(content_of(self.path('k.book')), content_of(book))

@@ -22,7 +22,8 @@ A table says by name whether its first column counts obligors (the defaulted inc
 may come from any sequence of whole numbers, those of a data frame among them. A desk has two places; each call is accepted, or raises
 Refused with its number and changes nothing. What the calls answer is proved; this module hands it on, and works out price
 ranges and costs on shares from it. Scales of books of different sizes are compared by `compare_shares`, with costs by shares of each
-book's own defaults and survivors: its prices are of missing all defaults, and of turning away all survivors, of a book.
+book's own defaults and survivors: its prices are of missing all defaults, and of turning away all survivors, of a book. `shortlist` lists
+the raters of a book for which no other one is better.
 """
 from .answers import Cutoff, Kind, Measures, PooledGrade, Price, Spread, Verdict, WrittenFraction
 from .book import read_book, write_book
@@ -30,10 +31,12 @@ from .costs import ShareCosts
 from .desk import Desk
 from .library import LibraryMissing
 from .ranges import PriceRange, price_ranges
+from .raters import shortlist, shortlist_into
 from .refusals import MEANINGS, Refused
 from .table import Grade, Table
 from .version import VERSION
 
 __all__ = ['Cutoff', 'Desk', 'Grade', 'Kind', 'LibraryMissing', 'MEANINGS', 'Measures', 'PooledGrade', 'Price', 'PriceRange',
-           'Refused', 'ShareCosts', 'Spread', 'Table', 'VERSION', 'Verdict', 'WrittenFraction', 'price_ranges', 'read_book', 'write_book']
+           'Refused', 'ShareCosts', 'Spread', 'Table', 'VERSION', 'Verdict', 'WrittenFraction', 'price_ranges', 'read_book', 'shortlist',
+           'shortlist_into', 'write_book']
 __version__ = str(VERSION)

@@ -122,6 +122,11 @@ def row_refusals(tables: Sequence[TableInBook], rater: int) -> Iterator[Refused]
         yield Refused(fault.number, f'byte {byte} (rater {rater}, {place}): {fault.why}')
 
 
+def located(number: int, found: Iterable[Refused]) -> Refused:
+    """The refusal of this number, with where the first of those that are found with it stands."""
+    return next((refusal for refusal in found if refusal.number == number), Refused(number))
+
+
 def load_refusals(book: bytes, rater: int) -> list[Refused]:
     """Why load refuses this rater of a book, the number that it answers first; nothing where it accepts."""
     book = as_bytes(book)

@@ -6,7 +6,7 @@ import operator
 
 from . import library
 from .answers import Cutoff, Kind, Measures, PooledGrade, Price, Spread, Verdict, WrittenFraction
-from .book import as_bytes, encode, load_refusals
+from .book import as_bytes, encode, load_refusals, located
 from .refusals import Refused
 from .table import Table
 
@@ -80,8 +80,7 @@ class Desk:
         copied = (c_ubyte * len(book)).from_buffer_copy(book)
         refusal = self._library.desk_load(byref(self._image), number(place, 'a place'), copied, len(book), number(rater, 'a rater'))
         if refusal:
-            found = [each.where for each in load_refusals(book, index(rater, 'a rater')) if each.number == refusal]
-            raise Refused(refusal, found[0] if found else None)
+            raise located(refusal, load_refusals(book, index(rater, 'a rater')))
 
     def clear(self, place: int) -> None:
         """Empties a loaded place. Refuses 1, 22."""

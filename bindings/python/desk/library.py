@@ -63,6 +63,7 @@ FUNCTIONS = {
     'desk_brier': ON_A_PLACE + [POINTER(DeskFraction)],
     'desk_spread': ON_A_PLACE + [POINTER(DeskSpread)],
     'desk_write': [POINTER(DeskImage), POINTER(c_ubyte), c_size_t, POINTER(c_size_t)],
+    'desk_shortlist': [POINTER(c_ubyte), c_size_t, POINTER(c_uint32), c_size_t, POINTER(c_size_t)],
 }
 
 

@@ -137,6 +137,13 @@ fn write(desk: &Desk, length: u32) -> Answer {
     Answer::Write(written, book)
 }
 
+fn shortlist(length: u32, book: &[u8]) -> Answer {
+    let (listed, numbers) = lend(LENT_NUMBER, length, |numbers| {
+        answered(88, |answer| sys::shortlist(book, numbers, answer))
+    });
+    Answer::Shortlist(listed, numbers)
+}
+
 fn narrow(number: impl TryInto<u32>) -> u32 {
     number.try_into().ok().expect("it has 32 bits")
 }
@@ -159,6 +166,7 @@ fn answer(desk: &mut Desk, call: &Call) -> Answer {
         Call::Brier { place } => Answer::Brier(brier(desk, place)),
         Call::Spread { place } => Answer::Spread(spread(desk, place)),
         Call::Write { length } => write(desk, length),
+        Call::Shortlist { length, ref book } => shortlist(length, book),
     }
 }
 
@@ -201,6 +209,9 @@ struct Met {
     large_tables: u32,
     other_totals: u32,
     prices_above_i32: u32,
+    lists_of_all: u32,
+    lists_of_several: u32,
+    lists_of_one: u32,
 }
 
 impl Met {
@@ -215,6 +226,13 @@ impl Met {
             (_, Answer::CompareShares(Ok(verdict))) => {
                 self.other_totals += u32::from(desk.compare() == Err(Refusal::Unlike));
                 self.prices_above_i32 += u32::from(has_high_price(verdict));
+            }
+            (Call::Shortlist { book, .. }, &Answer::Shortlist(Ok(listed), _)) => {
+                match (listed, book[0].into()) {
+                    (_, raters) if listed == raters => self.lists_of_all += 1,
+                    (1, _) => self.lists_of_one += 1,
+                    _ => self.lists_of_several += 1,
+                }
             }
             _ => (),
         }
@@ -260,6 +278,9 @@ fn agrees(seed: u64) {
         (met.large_tables, 20, "too large for shares"),
         (met.other_totals, 20, "of different books"),
         (met.prices_above_i32, 5, "with a price of 2^31 or more"),
+        (met.lists_of_all, 20, "lists of all raters"),
+        (met.lists_of_several, 20, "lists of some raters"),
+        (met.lists_of_one, 20, "lists of one rater of several"),
     ] {
         assert!(times >= least, "{times} {what}");
     }

@@ -129,6 +129,17 @@ fn write_refused(desk: &Desk, length: usize, number: u32) {
     });
 }
 
+/// Behind the desk's back: no desk is lent.
+fn shortlist_refused(book: &[u8], length: usize, number: u32) {
+    let lent = (book.to_vec(), vec![0xAAAA_AAAA; length], 77);
+    refused(
+        &Desk::empty(),
+        lent,
+        number,
+        |_, (book, numbers, listed)| sys::shortlist(book, numbers, listed),
+    );
+}
+
 #[test]
 fn no_such_place() {
     for desk in [desk_with(None, None), desk_with(Some(MIXED), Some(MIXED))] {
@@ -183,6 +194,12 @@ fn damaged_books() {
             damage(&mut random, &mut draft);
             for (place, desk) in (1..).zip(&desks) {
                 load_refused(desk, place, &draft.bytes, draft.rater, number);
+            }
+            // 4 is of load alone.
+            for length in [0, 16] {
+                if number != 4 {
+                    shortlist_refused(&draft.bytes, length, number);
+                }
             }
         }
     }
@@ -394,4 +411,75 @@ fn each_comparison_has_its_own_refusal() {
     compare_refused(Some(MIXED), Some(more_survivors), 25);
     let other = desk_with(Some(MIXED), Some(more_survivors));
     assert_eq!(sys::compare_shares(&other, &mut VERDICT.clone()), 0);
+}
+
+/// A book of sixteen raters, all of whom have the first table but one, who has the other.
+fn book_with(table: &Table, other: &Table, rater: usize) -> Vec<u8> {
+    let table_of = |each| if each == rater { other } else { table };
+    book::write(&(1..=16).map(table_of).collect::<Vec<&Table>>())
+}
+
+/// 23 over all raters, then 24 over all, then 25 between any two; before 13, whoever it is.
+#[test]
+fn shortlist_refuses_for_any_rater() {
+    let mixed = Table::of_rows(MIXED);
+    let more_survivors: Rows = &[(10, 2), (10, 1), (21, 4)];
+    for (rows, number) in [(NO_DEFAULTS, 23), (NO_SURVIVORS, 24), (more_survivors, 25)] {
+        for rater in 1..=16 {
+            let book = book_with(&mixed, &Table::of_rows(rows), rater);
+            for length in [0, 15, 16, 17] {
+                shortlist_refused(&book, length, number);
+            }
+        }
+    }
+    for rater in 1..=16 {
+        let no_defaults = Table::of_rows(NO_DEFAULTS);
+        let none_else = book_with(&Table::of_rows(NO_SURVIVORS), &no_defaults, rater);
+        shortlist_refused(&none_else, 16, 23);
+        let no_survivors = Table::of_rows(NO_SURVIVORS);
+        let none_else = book_with(&Table::of_rows(more_survivors), &no_survivors, rater);
+        shortlist_refused(&none_else, 0, 24);
+    }
+}
+
+/// rows are looked at rater by rater, before any total.
+#[test]
+fn shortlist_refuses_rater_by_rater() {
+    const HIGH: &[(u64, u64)] = &[(1_000_001, 0)];
+    let faults = [
+        (8, Table::of_rows(&[(1, 2)])),
+        (10, announcing(&[(1_000_001, 0)], &[1_000_001])),
+        (34, announcing(&[(0, 0); 2], &[7, 6])),
+        (9, Table::of_rows(&[(0, 0); 3])),
+        (11, Table::of_rows(HIGH)),
+    ];
+    let no_defaults = Table::of_rows(NO_DEFAULTS);
+    for (number, fault) in &faults {
+        for rater in 1..=16 {
+            shortlist_refused(&book_with(&no_defaults, fault, rater), 0, *number);
+        }
+        for (_, later) in &faults {
+            let book = book::write(&[&no_defaults, fault, later]);
+            shortlist_refused(&book, 16, *number);
+        }
+    }
+}
+
+/// 13 goes by the number of raters, not by how many are listed.
+#[test]
+fn shortlist_of_short_buffers() {
+    let (mixed, worse) = (Table::of_rows(MIXED), Table::of_rows(&[(40, 7)]));
+    for rater in 1..=16 {
+        let book = book_with(&worse, &mixed, rater);
+        for length in 0..16 {
+            shortlist_refused(&book, length, 13);
+        }
+        let (mut numbers, mut listed) = ([7; 17], 0);
+        assert_eq!(sys::shortlist(&book, &mut numbers, &mut listed), 0);
+        let rater = u32::try_from(rater).expect("a rater");
+        assert_eq!(
+            (listed, numbers[0], &numbers[1..]),
+            (1, rater, &[7; 16][..])
+        );
+    }
 }

@@ -1,12 +1,16 @@
 //! compare [--shares] BOOK BOOK [RATER RATER]: says which of two rating scales over the same obligors is better; with --shares, of
-//! two over different books.
+//! two over different books. compare --shortlist BOOK: says which raters of a book no other one beats.
 
 use desk::{Desk, Place, Price, Refusal, Verdict, WrongCut};
 use std::error::Error;
 use std::process::ExitCode;
 
+fn read(path: &str) -> Result<Vec<u8>, String> {
+    std::fs::read(path).map_err(|error| format!("{path}: {error}"))
+}
+
 fn load(desk: &mut Desk, place: Place, path: &str, rater: &str) -> Result<(), Box<dyn Error>> {
-    let book = std::fs::read(path).map_err(|error| format!("{path}: {error}"))?;
+    let book = read(path)?;
     let rater = rater.parse().unwrap_or(0); // which load refuses
     let loaded = desk.load(place, &book, rater);
     Ok(loaded.map_err(|refusal| format!("{path}: {}", in_words(refusal, &book)))?)
@@ -65,7 +69,42 @@ fn compare(desk: &Desk, on_shares: bool) -> Result<(), Box<dyn Error>> {
     prices.try_for_each(|price| say_costs(desk, price))
 }
 
+/// Of a rater that is not listed: the first listed one that is better, and prices that show it.
+fn say_beaten(book: &[u8], rater: u32, listed: &[u32]) -> Result<(), Refusal> {
+    for &better in listed {
+        let mut desk = Desk::empty();
+        desk.load(Place::First, book, better)?;
+        desk.load(Place::Second, book, rater)?;
+        if let Verdict::First { second_dearer } = desk.compare()? {
+            let Price { u, v } = second_dearer;
+            print!("Rater {rater} is not listed: rater {better} is better.");
+            print!(" At {u} for a missed default and {v} for a survivor turned away");
+            println!(" rater {rater} costs more.");
+            break;
+        }
+    }
+    Ok(())
+}
+
+fn say_shortlist(path: &str) -> Result<(), Box<dyn Error>> {
+    let book = read(path)?;
+    let listed = desk::shortlist(&book)
+        .map_err(|refusal| format!("{path}: {}", in_words(refusal, &book)))?;
+    // The first byte of an accepted book is the number of its raters.
+    for rater in 1..=u32::from(book[0]) {
+        if listed.contains(&rater) {
+            println!("Rater {rater} is listed.");
+        } else {
+            say_beaten(&book, rater, &listed)?;
+        }
+    }
+    Ok(())
+}
+
 fn run(words: &[&str]) -> Result<(), Box<dyn Error>> {
+    if let ["--shortlist", path] = words {
+        return say_shortlist(path);
+    }
     let (on_shares, books) = match words {
         ["--shares", books @ ..] => (true, books),
         _ => (false, words),
@@ -73,7 +112,12 @@ fn run(words: &[&str]) -> Result<(), Box<dyn Error>> {
     let ([one, other], [rater, other_rater]) = match *books {
         [one, other] => ([one, other], ["1", "1"]),
         [one, other, rater, other_rater] => ([one, other], [rater, other_rater]),
-        _ => return Err("usage: compare [--shares] BOOK BOOK [RATER RATER]".into()),
+        _ => {
+            return Err(
+                "usage: compare [--shares] BOOK BOOK [RATER RATER], or compare --shortlist BOOK"
+                    .into(),
+            );
+        }
     };
     let mut desk = Desk::empty();
     load(&mut desk, Place::First, one, rater)?;

@@ -20,7 +20,7 @@ fn accepted(number: u32) -> Result<(), Refusal> {
 }
 
 /// The number and what the call wrote.
-fn answered<T: Default>(call: impl FnOnce(&mut T) -> u32) -> Result<T, Refusal> {
+pub(crate) fn answered<T: Default>(call: impl FnOnce(&mut T) -> u32) -> Result<T, Refusal> {
     let mut answer = T::default();
     accepted(call(&mut answer))?;
     Ok(answer)

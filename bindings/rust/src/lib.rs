@@ -7,7 +7,8 @@
 //! still looks right. A scale is at least as good as another over the same obligors if its cheapest
 //! cutoff costs no more, whatever a missed default and a survivor turned away may cost;
 //! [`Desk::compare`] decides that, and shows prices where it does not hold. For scales over different
-//! books [`Desk::compare_shares`] decides the same by shares of their defaults and survivors.
+//! books [`Desk::compare_shares`] decides the same by shares of their defaults and survivors. Of all
+//! raters of a book [`shortlist`] lists those for which no other one is better.
 //!
 //! ```
 //! use desk::{Desk, Place, Table, Verdict};
@@ -35,6 +36,7 @@ mod desk;
 mod fraction;
 mod place;
 mod refusal;
+mod shortlist;
 pub mod sys;
 mod table;
 mod text;
@@ -46,6 +48,7 @@ pub use answer::{Cutoff, Grade, Measures, PooledGrade, Price, Spread};
 pub use fraction::Fraction;
 pub use place::Place;
 pub use refusal::{Refusal, UnknownNumber};
+pub use shortlist::{shortlist, shortlist_into};
 pub use sys::Desk;
 pub use table::Table;
 pub use verdict::Verdict;
@@ -54,7 +57,7 @@ pub use wrong_cut::WrongCut;
 
 /// The most grades of a table.
 pub const GRADES: usize = 40;
-/// The most raters of a book.
+/// The most raters of a book, and numbers enough for whatever shortlist there is of one.
 pub const RATERS: usize = 16;
 /// The most obligors of a table.
 pub const MAX_OBLIGORS: u32 = 1_000_000;

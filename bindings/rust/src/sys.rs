@@ -138,6 +138,13 @@ unsafe extern "C" {
     fn desk_load(desk: &mut Desk, place: u32, book: *const u8, length: usize, rater: u32) -> u32;
     fn desk_pool(desk: &Desk, place: u32, numbers: *mut u32, length: usize) -> u32;
     fn desk_write(desk: &Desk, book: *mut u8, length: usize, written: &mut usize) -> u32;
+    fn desk_shortlist(
+        book: *const u8,
+        length: usize,
+        numbers: *mut u32,
+        room: usize,
+        listed: &mut usize,
+    ) -> u32;
 
     // A library of another version does not have this name.
     #[link_name = concat!("desk_library_is_version_", env!("CARGO_PKG_VERSION_MAJOR"))]
@@ -322,4 +329,34 @@ pub fn pool(desk: &Desk, place: u32, numbers: &mut [u32]) -> u32 {
 pub fn write(desk: &Desk, book: &mut [u8], written: &mut usize) -> u32 {
     // SAFETY: the slice lends as many bytes as it says, also none.
     unsafe { desk_write(desk, book.as_mut_ptr(), book.len(), written) }
+}
+
+/// Writes the raters of a book, counted from 1 and in book order, for which no other rater of it is
+/// better, keeps the further numbers, and says how many are listed. Refuses 2, 3; table by table 31,
+/// 32, 6, 7, 32; 33; rater by rater: of its rows, one by one, 8, 10, 34; 9; 11; then 23, 24, 25, 13.
+///
+/// ```
+/// use desk::{sys, Table};
+///
+/// let coarse = Table::by_obligors().grade(3, 1, 0).grade(3, 2, 0);
+/// let fine = Table::by_obligors().grade(2, 0, 0).grade(2, 1, 0).grade(2, 2, 0);
+/// let book = Table::book(&[coarse, fine])?;
+/// let (mut numbers, mut listed) = ([7; 3], 0);
+/// assert_eq!(sys::shortlist(&book, &mut numbers[..1], &mut listed), 13, "for two raters");
+/// assert_eq!(sys::shortlist(&book, &mut numbers, &mut listed), 0);
+/// assert_eq!((numbers, listed), ([2, 7, 7], 1));
+/// # Ok::<(), desk::Refusal>(())
+/// ```
+#[must_use = "a refused call writes nothing"]
+pub fn shortlist(book: &[u8], numbers: &mut [u32], listed: &mut usize) -> u32 {
+    // SAFETY: the slices lend as many bytes and numbers as they say, also none.
+    unsafe {
+        desk_shortlist(
+            book.as_ptr(),
+            book.len(),
+            numbers.as_mut_ptr(),
+            numbers.len(),
+            listed,
+        )
+    }
 }

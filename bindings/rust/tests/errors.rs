@@ -22,6 +22,13 @@ fn sections(source: &str) -> Vec<(String, String)> {
     sections
 }
 
+/// Those of several sources.
+fn all_sections<const N: usize>(names: [&str; N]) -> Vec<(String, String)> {
+    names
+        .map(|name| sections(&read(&format!("src/{name}.rs"))))
+        .concat()
+}
+
 /// The numbers in a text, in their order.
 fn numbers(text: &str) -> Vec<u32> {
     let words = text.split(|letter: char| !letter.is_ascii_digit());
@@ -42,10 +49,7 @@ fn refused_in_c(header: &str, function: &str) -> Vec<u32> {
 #[test]
 fn every_number_has_its_name() {
     let mut count = 0;
-    for (method, said) in ["desk", "table"]
-        .map(|name| sections(&read(&format!("src/{name}.rs"))))
-        .concat()
-    {
+    for (method, said) in all_sections(["desk", "shortlist", "table"]) {
         let mut rest = said.clone();
         for refusal in Refusal::ALL {
             let named = format!("{} ([`Refusal::{refusal:?}`])", refusal.number());
@@ -56,18 +60,19 @@ fn every_number_has_its_name() {
         assert!(!rest.contains("Refusal::"), "{method}: {said}");
         count += 1;
     }
-    assert_eq!(count, 14);
+    assert_eq!(count, 16);
 }
 
 #[test]
 fn the_order_is_that_of_the_header() {
     let header = read("../../include/desk.h");
     let mut count = 0;
-    for (method, said) in sections(&read("src/desk.rs")) {
+    for (method, said) in all_sections(["desk", "shortlist"]) {
         let function = match method.as_str() {
-            "pool" | "write" => continue, // made of others
+            "pool" | "shortlist" | "write" => continue, // made of others
             "load_table" => "load_rows",
             "pool_into" => "pool",
+            "shortlist_into" => "shortlist",
             "write_into" => "write",
             name => name,
         };
@@ -79,7 +84,7 @@ fn the_order_is_that_of_the_header() {
         assert_eq!(numbers(&said), expected, "{method}");
         count += 1;
     }
-    assert_eq!(count, 11);
+    assert_eq!(count, 12);
 }
 
 /// A book of tables is refused as the rows of one, with the number of raters before.
@@ -114,5 +119,5 @@ fn the_order_of_sys_is_that_of_the_header() {
         assert_eq!(numbers(said), refused_in_c(&header, name), "{name}");
         count += 1;
     }
-    assert_eq!(count, 10);
+    assert_eq!(count, 11);
 }

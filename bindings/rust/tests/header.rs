@@ -52,6 +52,7 @@ fn numbers_are_those_of_documents_01_and_02() {
 fn limits_are_those_of_the_header() {
     let limits = [
         ("DESK_GRADES", desk::GRADES.to_string()),
+        ("DESK_RATERS", desk::RATERS.to_string()),
         ("DESK_MAX_OBLIGORS", desk::MAX_OBLIGORS.to_string()),
         (
             "DESK_MAX_OBLIGORS_ON_SHARES",

@@ -102,9 +102,11 @@ def why_not(number: int, tables: Sequence[Table]) -> str:
     if number == 35:
         large = ', '.join(f'{table.name} has {table.obligors} obligors' for table in tables if table.obligors > MAX_OBLIGORS_ON_SHARES)
         return f'{large}; on shares tables of at most {MAX_OBLIGORS_ON_SHARES} are compared'
-    totals = ', '.join(f'{table.name} has {counted(table.defaults, "default")} and {counted(table.survivors, "survivor")}'
-                       for table in tables)
-    return totals + INSTEAD if number == 25 else totals
+    return totals_of(tables) + (INSTEAD if number == 25 else '')
+
+
+def totals_of(tables: Sequence[Table]) -> str:
+    return ', '.join(f'{table.name} has {counted(table.defaults, "default")} and {counted(table.survivors, "survivor")}' for table in tables)
 
 
 # Prices

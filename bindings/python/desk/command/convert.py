@@ -4,11 +4,11 @@ from __future__ import annotations
 from typing import Any, Sequence
 import os
 
-from ..book import MAX_RATERS, encode
+from ..book import encode
 from ..table import Table
 from . import questions
-from .files import see_apart, see_once, write_whole
-from .inputs import Source, accepted, read_source
+from .files import see_apart, write_whole
+from .inputs import Source, accepted, read_all, read_source, too_many
 from .layout import counted, plain
 from .outcome import Complaint, NotTaken, Outcome, Question
 from .show import summary, summary_data
@@ -16,19 +16,11 @@ from .show import summary, summary_data
 
 def pack(files: Sequence[str], output: str) -> Outcome:
     """One book of all tables of these CSV files, in this order. What load would refuse of any of them is refused, and nothing written."""
-    see_once(files)
     see_apart(files, output)
-    sources, refusals = [], []
-    for file in files:
-        try:
-            sources.append(read_source(file))
-        except NotTaken as not_taken:
-            refusals += not_taken.refusals
+    sources, refusals = read_all(files)
     refusals += [Complaint(None, source.file, 'this is a book already, not CSV') for source in sources if source.is_book]
     raters = [rater for source in sources for rater in source.raters]
-    if len(raters) > MAX_RATERS:
-        refusals.append(Complaint(3, raters[MAX_RATERS].start, f'rater {MAX_RATERS + 1} starts here; a book holds at most {MAX_RATERS}'))
-    tables = accepted(raters, refusals)
+    tables = accepted(raters, refusals + too_many(raters))
     book = encode([(table.counts, table.rows) for table in tables])
     write_whole(output, book)
     lines = [f'rater {number}: {summary(*each)}' for number, each in enumerate(zip(raters, tables), 1)]

@@ -8,7 +8,7 @@ from ..book import MAX_RATERS, TableInBook, row_refusals, tables_in
 from ..refusals import Refused
 from ..table import Row, Table, faults
 from .csv_file import Problem, Sheet, is_text, read_csv
-from .files import MOST_BYTES, STANDARD_INPUT, read_bytes
+from .files import MOST_BYTES, STANDARD_INPUT, read_bytes, see_once
 from .layout import LEAST_OF_A_NAME, MOST_OF_A_NAME, shortened, shown
 from .outcome import Complaint, NotTaken, Question, WrongUsage
 
@@ -71,6 +71,18 @@ def read_source(file: str) -> Source:
     return named(Source(file, True, raters, []))
 
 
+def read_all(files: Sequence[str]) -> tuple[list[Source], list[Complaint]]:
+    """The files that can be read, and what makes the others unreadable."""
+    see_once(files)
+    sources, complaints = [], []
+    for file in files:
+        try:
+            sources.append(read_source(file))
+        except NotTaken as not_taken:
+            complaints += not_taken.refusals
+    return sources, complaints
+
+
 def of_book(file: str, found: list[TableInBook], number: int) -> Rater:
     complaints = [Complaint.of(refused, file) for refused in row_refusals(found, number)]
     table = found[number - 1]
@@ -129,6 +141,13 @@ def told_apart(first: Rater, second: Rater) -> list[Rater]:
         names = [shortened(rater.name, max(MOST_OF_A_NAME - len(ending), LEAST_OF_A_NAME)) + ending
                  for rater, ending in zip(raters, endings)]
     return [rater._replace(name=name) for rater, name in zip(raters, names)]
+
+
+def too_many(raters: Sequence[Rater]) -> list[Complaint]:
+    """What is refused where these are more raters than a book holds."""
+    if len(raters) <= MAX_RATERS:
+        return []
+    return [Complaint(3, raters[MAX_RATERS].start, f'rater {MAX_RATERS + 1} starts here; a book holds at most {MAX_RATERS}')]
 
 
 def accepted(raters: Sequence[Rater], complaints: Sequence[Complaint] = ()) -> list[Table]:

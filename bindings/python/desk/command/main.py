@@ -24,7 +24,8 @@ from .outcome import NotTaken, Outcome, WrongUsage
 ANSWERED, REFUSED, FAILED = 0, 1, 2
 
 DESCRIPTION = '''\
-Compares credit rating scales: which of two is better whatever the prices, and if they cross, at which prices each one is.
+Compares credit rating scales: which of two is better whatever the prices, and if they cross, at which prices each one is; and which
+of all raters of a book no other one beats.
 Files are books or CSV, told apart by their content; - is standard input.
 '''
 EXAMPLES = '''\
@@ -33,6 +34,7 @@ examples:
   desk compare portfolio.book 1 3                 two raters of one book
   desk compare inhouse.csv agency.csv --prices 50:1 --prices 20:1
   desk compare harbour.csv valley.csv --shares    scales of books of different sizes
+  desk shortlist portfolio.book                   the raters that no other one beats
   desk show portfolio.book                        all raters at a glance
   desk show portfolio.book 3                      one rater in full
   desk pack inhouse.csv agency.csv -o both.book   CSV to a book
@@ -102,6 +104,8 @@ def command_line() -> Parser:
     compare.add_argument('--prices', action='append', default=[], type=prices, metavar='U:V',
                          help='also the cheapest cutoffs of both at these prices of a missed default and of a survivor turned away, with '
                               '--shares of all defaults missed and of all survivors turned away; may be repeated')
+    shortlist = command('shortlist', 'the raters of a book that no other one beats, and who beats the others', 'desk shortlist portfolio.book')
+    shortlist.add_argument('files', nargs='+', metavar='FILE', help='a book, or several files whose raters, in this order, are taken as one book')
     show = command('show', 'the grades, rates and measures of a rater, or all raters at a glance', 'desk show portfolio.book 3')
     show.add_argument('file', metavar='FILE')
     show.add_argument('rater', nargs='?', metavar='RATER', help='its number or name; left out, all raters of a file that has several')
@@ -127,6 +131,9 @@ def answer(asked: argparse.Namespace) -> Outcome:
     if asked.command == 'compare':
         from .compare import compare
         return compare(asked.words, asked.prices, asked.shares, shared_library())
+    if asked.command == 'shortlist':
+        from .shortlist import shortlist
+        return shortlist(asked.files, shared_library())
     if asked.command == 'show':
         from .show import show
         return show(asked.file, asked.rater, asked.repeated, shared_library())

@@ -16,6 +16,7 @@ from .outcome import Complaint, Outcome, Question, WrongUsage
 
 PPM = 1_000_000
 CURVES = (('Gini', 'gini'), ('ROC area', 'roc'), ('CAP area', 'cap'), ('Pietra', 'pietra'))
+LINE_HEADING = ('grades', 'obligors', 'survivors', 'defaults', 'rate', 'blocks', *(label for label, _ in CURVES), 'Brier')
 ABOUT_BANDS = ('Occupied grades with one pooled rate form a block. Band b has the pooled rates of at most 100 times 2^b ppm (0.01% times 2^b) '
                'that no lower band has;\nband 14 has those above 81.92%.')
 ABOUT_EMPTY = 'An empty grade, with no obligors, has no observed and no pooled rate (-); --repeated shows what pool repeats for it.'
@@ -160,8 +161,7 @@ def in_full(source: Source, rater: Rater, repeated: bool, library: str) -> Outco
 
 def glance(source: Source, library: str) -> Outcome:
     """A line for each rater. One that load refuses has the number in its line, and the complaints follow."""
-    heading = ('rater', 'name', 'grades', 'obligors', 'survivors', 'defaults', 'rate', 'blocks', *(label for label, _ in CURVES), 'Brier')
-    rows, data, asked, refusals = [heading], [], list(source.questions), []
+    rows, data, asked, refusals = [('rater', 'name', *LINE_HEADING)], [], list(source.questions), []
     for rater in source.raters:
         row, found, questions_of_it, complaints = line_of(rater, library)
         rows.append((str(rater.number), shown(rater.name), *row))
@@ -174,10 +174,10 @@ def glance(source: Source, library: str) -> Outcome:
 
 
 def line_of(rater: Rater, library: str) -> tuple[list[str], dict[str, Any], Sequence[Question], Sequence[Complaint]]:
-    """A rater's cells and data, what should be asked, and what was refused."""
+    """A rater's cells below LINE_HEADING and its data, what should be asked, and what was refused."""
     data: dict[str, Any] = {'number': rater.number, 'name': rater.name, 'rater': None, 'blocks': None, 'measures': None}
     if rater.complaints:
-        return [f'refused {rater.complaints[0].number}'] + [''] * 10, data, [], rater.complaints
+        return [f'refused {rater.complaints[0].number}'] + [''] * (len(LINE_HEADING) - 1), data, [], rater.complaints
     table = rater.table()
     desk = Desk(library)
     desk.load(1, table)
