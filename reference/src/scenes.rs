@@ -22,7 +22,7 @@ pub const SCENES: [(u64, Scene); 18] = [
     (56, ("damaged book", Generator::damaged_book)),
     (27, ("several faults at once", Generator::several_faults)),
     (38, ("book cut wrong", Generator::book_cut_wrong)),
-    (28, ("two faults of a table", Generator::two_faults)),
+    (30, ("two faults of a table", Generator::two_faults)),
     (2, ("junk for a book", Generator::junk_book)),
     (5, ("wandering calls", Generator::wandering)),
     (5, ("at the limits", Generator::limits)),

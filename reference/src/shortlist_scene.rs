@@ -181,9 +181,23 @@ fn with_faults(
         damage_layout(random, &mut draft, index, number);
     }
     if let Some(number) = of_book {
-        way_to(random, number).1(random, &mut draft);
+        damage_book(random, &mut draft, number);
     }
     draft.bytes
+}
+
+/// Now and then with another fault of the book besides, which the checks come to later.
+fn damage_book(random: &mut Random, draft: &mut Draft, number: Refusal) {
+    let later: &[Refusal] = match number {
+        2 => &[3, 33],
+        3 => &[33],
+        _ => &[],
+    };
+    if !later.is_empty() && random.chance(60) {
+        let besides = random.pick(later);
+        way_to(random, besides).1(random, draft);
+    }
+    way_to(random, number).1(random, draft);
 }
 
 /// Tables of the same totals, save where these faults are of the totals.

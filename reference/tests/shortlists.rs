@@ -381,6 +381,8 @@ fn faults_of_the_book_stand_around_the_layout_of_its_tables() {
         assert_eq!(refusal(|book| book[0] = 0), Some(3));
         assert_eq!(refusal(|book| book[0] = 17), Some(3));
         assert_eq!(refusal(|book| book[1] = 1), Some(3));
+        let both = |book: &mut Vec<u8>| (book[0], book[2]) = (17, book[2] + 1);
+        assert_eq!(refusal(both), Some(2));
         let ends_within_offsets = |book: &mut Vec<u8>| {
             book.truncate(9);
             book[2] = 9;
