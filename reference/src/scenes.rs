@@ -165,7 +165,7 @@ impl Generator {
                 old.copy_from_slice(&header);
             }
         }
-        self.list_now_and_then(&book);
+        self.list(&book);
         let rater = self.random.between(0, 3) as u32;
         self.emit(Call::Load { place, rater, book });
     }

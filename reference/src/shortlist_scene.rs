@@ -316,10 +316,14 @@ impl Generator {
     /// Now and then the shortlist of a book that load has been lent.
     pub(crate) fn list_now_and_then(&mut self, book: &[u8]) {
         if self.random.chance(10) {
-            let length = self.random.pick(&[0, 1, 15, 16, 16]);
-            let book = book.to_vec();
-            self.emit(Call::Shortlist { length, book });
+            self.list(book);
         }
+    }
+
+    pub(crate) fn list(&mut self, book: &[u8]) {
+        let length = self.random.pick(&[0, 1, 15, 16, 16]);
+        let book = book.to_vec();
+        self.emit(Call::Shortlist { length, book });
     }
 
     /// Now and then the shortlist of the two that the first comparison is about.
