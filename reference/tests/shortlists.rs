@@ -265,9 +265,9 @@ fn refusal(book: &[u8], lengths: &[usize]) -> Option<u32> {
 #[test]
 fn a_buffer_has_a_number_for_every_rater() {
     for raters in 1..=16 {
-        let mut book = vec![NOISE; raters];
-        for others in [NOISE, BEST] {
-            book[raters - 1] = others;
+        for best in [0, raters / 2, raters - 1] {
+            let mut book = vec![NOISE; raters];
+            book[best] = BEST;
             let bytes = book_of(&tables(&book));
             let short: Vec<usize> = (0..raters).collect();
             assert_eq!(refusal(&bytes, &short), Some(13));
@@ -394,6 +394,25 @@ fn faults_of_the_book_stand_around_the_layout_of_its_tables() {
             book.push(0);
         };
         assert_eq!(refusal(bytes_follow), Some(expected), "{number}");
+    }
+}
+
+/// A single rater is tested as several are, and by whole numbers.
+#[test]
+fn a_single_rater_needs_defaults_and_survivors() {
+    for (obligors, defaults, number) in [
+        (9, 0, Some(23)),
+        (9, 9, Some(24)),
+        (65_536, 0, Some(23)),
+        (65_536, 65_536, Some(24)),
+        (65_537, 65_536, None),
+        (65_537, 1, None),
+        (131_072, 65_536, None),
+        (1_000_000, 999_999, None),
+    ] {
+        let book = book_of(&tables(&[&[(obligors, defaults)]]));
+        assert_eq!(refusal(&book, &[1, 16]), number, "{obligors}, {defaults}");
+        assert_eq!(refusal(&book, &[0]), number.or(Some(13)));
     }
 }
 
