@@ -21,6 +21,8 @@ pub enum Answer {
     Spread(Result<Spread, Refusal>),
     /// With the lent bytes after the call.
     Write(Result<usize, Refusal>, Vec<u8>),
+    /// How many raters are listed, with the lent numbers after the call.
+    Shortlist(Result<usize, Refusal>, Vec<u32>),
 }
 
 impl Answer {
@@ -48,6 +50,10 @@ impl Answer {
                 words("write", answer, |length| vec![length.to_string()]),
                 &hex(lent),
             ),
+            Answer::Shortlist(answer, lent) => append(
+                words("shortlist", answer, |count| vec![count.to_string()]),
+                &join(&texts(lent)),
+            ),
         }
     }
 
@@ -60,7 +66,7 @@ impl Answer {
             Answer::Measures(answer) => answer.err(),
             Answer::Brier(answer) => answer.err(),
             Answer::Spread(answer) => answer.err(),
-            Answer::Write(answer, _) => answer.err(),
+            Answer::Write(answer, _) | Answer::Shortlist(answer, _) => answer.err(),
         }
     }
 }

@@ -6,7 +6,7 @@ use crate::generate::Generator;
 use crate::pooling::Rate;
 use crate::population::{announce, positive_shares};
 use crate::random::Random;
-use crate::script::{Call, MAX_POOL_LENGTH};
+use crate::script::{Call, MAX_LENT_NUMBERS};
 use crate::table::{Table, MAX_GRADES, MAX_OBLIGORS, MILLION};
 use std::cmp::Ordering::{Equal, Greater, Less};
 
@@ -257,7 +257,7 @@ impl Generator {
         let exact = 3 * table.grades.len() as u32;
         let length = self
             .random
-            .pick(&[exact, exact, exact + 1, exact + 3, MAX_POOL_LENGTH]);
+            .pick(&[exact, exact, exact + 1, exact + 3, MAX_LENT_NUMBERS]);
         self.emit(Call::Pool { place, length });
     }
 }

@@ -22,6 +22,16 @@ pub fn read(book: &[u8], rater: u32) -> Result<Table, Refusal> {
     read_table(book, starts[rater as usize - 1])
 }
 
+/// Reads the tables of all raters. Request R-7 of document 02: "The layout of the whole book is
+/// checked first as in load, without 1, 21 and 4. Then come the row checks, 9 and 11 of each rater
+/// in book order."
+pub fn read_all(book: &[u8]) -> Result<Vec<Table>, Refusal> {
+    let raters = count_raters(book)?;
+    let starts = check_layout(book, raters)?;
+    let tables = starts.into_iter().map(|start| read_table(book, start));
+    tables.collect()
+}
+
 /// Refusals 2 and 3.
 fn count_raters(book: &[u8]) -> Result<usize, Refusal> {
     if book.len() < HEAD_BYTES || two_bytes(book, 2) != book.len() {

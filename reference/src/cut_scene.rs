@@ -213,6 +213,7 @@ impl Generator {
         let cut = self.next_cut();
         let mut draft = cut.sound_book(&mut self.random);
         cut.damage(&mut self.random, &mut draft);
+        self.list_now_and_then(&draft.bytes);
         let place = self.random.pick(&[1, 2]);
         let raters: Vec<u32> = (1..).take(draft.raters()).collect();
         let loaded = match raters.as_slice() {

@@ -150,8 +150,21 @@ fn any_count_past_end(random: &mut Random, draft: &mut Draft) {
 
 fn grade_count_outside(random: &mut Random, draft: &mut Draft) {
     let index = random.index(draft.raters());
-    let count = random.pick(&COUNTS_OUTSIDE);
-    draft.put(draft.start(index), &[count]);
+    damage_layout(random, draft, index, 6);
+}
+
+/// Damages the layout at the table of this index, if the number is one of a table's layout. No byte
+/// is put in.
+pub(crate) fn damage_layout(random: &mut Random, draft: &mut Draft, index: usize, number: Refusal) {
+    let start = draft.start(index);
+    match number {
+        31 => cuts::misstate_offset(random, draft, index),
+        32 => cuts::run_past_end(random, draft, index),
+        6 => draft.put(start, &[random.pick(&COUNTS_OUTSIDE)]),
+        7 if random.chance(50) => draft.put(start + 1, &[random.pick(&ODD_KINDS)]),
+        7 => draft.put(start + 2, &random.pick(&ODD_ZERO_BYTES)),
+        _ => (),
+    }
 }
 
 /// Lengthens the last table to 41 true rows.

@@ -6,11 +6,12 @@ use crate::cutoff::{cheapest, verdict, Price, Verdict};
 use crate::measures::{brier, measures, Measures};
 use crate::script::Call;
 use crate::shares::{verdict_on_shares, MAX_OBLIGORS_ON_SHARES};
+use crate::shortlist::shortlist;
 use crate::spread::{spread, Spread};
-use crate::table::{Refusal, Table, MILLION};
+use crate::table::{check_outcomes, check_same_totals, Refusal, Table, MILLION};
 use crate::{book, pooling};
 
-/// What `replay` sets each number lent to pool to.
+/// What `replay` sets each number lent to pool or shortlist to.
 pub const LENT_NUMBER: u32 = 0xAAAA_AAAA;
 /// What `replay` sets each byte lent to write to.
 pub const LENT_BYTE: u8 = 0xAA;
@@ -43,6 +44,7 @@ impl Desk {
             Call::Brier { place } => Answer::Brier(self.brier(place)),
             Call::Spread { place } => Answer::Spread(self.spread(place)),
             Call::Write { length } => self.answer_write(length),
+            Call::Shortlist { length, ref book } => answer_shortlist(length, book),
         }
     }
 
@@ -99,22 +101,15 @@ impl Desk {
     /// What both comparisons test: 22 for place 1, then for place 2; 23 for either; 24 for either.
     fn both_tables(&self) -> Result<[&Table; 2], Refusal> {
         let tables = [self.table(1)?, self.table(2)?];
-        if tables.iter().any(|table| table.defaults() == 0) {
-            return Err(23);
-        }
-        if tables.iter().any(|table| table.survivors() == 0) {
-            return Err(24);
-        }
+        check_outcomes(&tables)?;
         Ok(tables)
     }
 
     /// What both comparisons test; 25.
     pub fn compare(&self) -> Result<Verdict, Refusal> {
-        let [first, second] = self.both_tables()?;
-        if first.defaults() != second.defaults() || first.survivors() != second.survivors() {
-            return Err(25);
-        }
-        Ok(verdict(first, second))
+        let tables = self.both_tables()?;
+        check_same_totals(&tables)?;
+        Ok(verdict(tables[0], tables[1]))
     }
 
     /// Request R-6 of document 02: what both comparisons test; 35 for either.
@@ -132,12 +127,7 @@ impl Desk {
     /// 1, 22, 23, 24.
     pub fn measures(&self, place: u32) -> Result<Measures, Refusal> {
         let table = self.table(place)?;
-        if table.defaults() == 0 {
-            return Err(23);
-        }
-        if table.survivors() == 0 {
-            return Err(24);
-        }
+        check_outcomes(&[table])?;
         Ok(measures(table))
     }
 
@@ -179,6 +169,12 @@ impl Desk {
         let tables: Vec<&Table> = self.places.iter().flatten().collect();
         (!tables.is_empty()).then(|| book::write(&tables).len())
     }
+}
+
+/// "The desk plays no part."
+fn answer_shortlist(length: u32, book: &[u8]) -> Answer {
+    let mut lent = vec![LENT_NUMBER; length as usize];
+    Answer::Shortlist(shortlist(book, &mut lent), lent)
 }
 
 fn place_index(place: u32) -> Result<usize, Refusal> {

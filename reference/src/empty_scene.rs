@@ -7,7 +7,7 @@ use crate::partners::partner;
 use crate::pooling::{blocks, Block};
 use crate::population::{announce, any_table, positive_shares};
 use crate::random::Random;
-use crate::script::{Call, MAX_POOL_LENGTH};
+use crate::script::{Call, MAX_LENT_NUMBERS};
 use crate::table::{Grade, Table, MAX_GRADES};
 use std::fmt;
 
@@ -243,7 +243,7 @@ impl Generator {
         let of_occupied = 3 * table.occupied() as u32;
         let long = self
             .random
-            .pick(&[exact, exact, exact + 1, exact + 3, MAX_POOL_LENGTH]);
+            .pick(&[exact, exact, exact + 1, exact + 3, MAX_LENT_NUMBERS]);
         let short = self
             .random
             .pick(&[of_occupied, of_occupied, exact - 1, exact - 3]);

@@ -11,9 +11,11 @@ use crate::lenders::{lenders_in_turn, Lenders};
 use crate::nearly_empty_scene::{every_rows, Rows};
 use crate::pair_scene::{every_pair, FaultPair};
 use crate::random::Random;
+use crate::rivals::{every_rivals, Rivals};
 use crate::scenes::SCENES;
 use crate::script::{decode, Call};
 use crate::shares_scene::{faults_in_turn, Holds};
+use crate::shortlist_scene::{every_fault, Fault};
 use crate::table::Table;
 use crate::tail::broken_tail;
 use std::collections::BTreeMap;
@@ -26,8 +28,8 @@ pub struct Script {
     pub tail: Vec<u8>,
 }
 
-/// What scenes have done to books, by the index of the call that loads them, and to the tables on
-/// the desk, by the index of the call that compares them.
+/// What scenes have done to books, by the index of the call that loads or lists them, and to the
+/// tables on the desk, by the index of the call that compares them.
 #[derive(Default)]
 pub(crate) struct Marks {
     pub cuts: BTreeMap<usize, Cut>,
@@ -35,6 +37,8 @@ pub(crate) struct Marks {
     pub rows: BTreeMap<usize, Rows>,
     pub rates: BTreeMap<usize, Rates>,
     pub lenders: BTreeMap<usize, Lenders>,
+    pub rivals: BTreeMap<usize, Rivals>,
+    pub faults: BTreeMap<usize, Fault>,
 }
 
 impl Script {
@@ -96,6 +100,8 @@ pub struct Generator {
     rates_to_come: Vec<Rates>,
     lenders_to_come: Vec<Lenders>,
     faults_to_come: Vec<[Holds; 2]>,
+    rivals_to_come: Vec<Rivals>,
+    faults_of_books_to_come: Vec<Fault>,
     name: &'static str,
 }
 
@@ -115,6 +121,8 @@ impl Generator {
             rates_to_come: vec![],
             lenders_to_come: vec![],
             faults_to_come: vec![],
+            rivals_to_come: vec![],
+            faults_of_books_to_come: vec![],
             name: "",
         }
     }
@@ -175,6 +183,15 @@ impl Generator {
         self.random.deal(&mut self.faults_to_come, faults_in_turn)
     }
 
+    pub(crate) fn next_rivals(&mut self) -> Rivals {
+        self.random.deal(&mut self.rivals_to_come, every_rivals)
+    }
+
+    pub(crate) fn next_fault_of_book(&mut self) -> Fault {
+        self.random
+            .deal(&mut self.faults_of_books_to_come, every_fault)
+    }
+
     /// A load of a book that is cut wrong in this manner.
     pub(crate) fn load_cut(&mut self, place: u32, draft: Draft, cut: Cut) {
         self.marks.cuts.insert(self.calls.len(), cut);
@@ -203,6 +220,18 @@ impl Generator {
     pub(crate) fn compare_lenders(&mut self, lenders: Lenders) {
         self.marks.lenders.insert(self.calls.len(), lenders);
         self.emit(Call::CompareShares);
+    }
+
+    /// The shortlist of such raters.
+    pub(crate) fn list_rivals(&mut self, length: u32, book: Vec<u8>, rivals: Rivals) {
+        self.marks.rivals.insert(self.calls.len(), rivals);
+        self.emit(Call::Shortlist { length, book });
+    }
+
+    /// The shortlist of a book with such faults.
+    pub(crate) fn list_faulty(&mut self, length: u32, book: Vec<u8>, fault: Fault) {
+        self.marks.faults.insert(self.calls.len(), fault);
+        self.emit(Call::Shortlist { length, book });
     }
 
     pub fn load_pair(&mut self, (first, second): (Table, Table)) {

@@ -134,7 +134,7 @@ impl Lenders {
             MostInSecond => [sound(random), most(random)],
             MostInBoth => [most(random), most(random)],
             HighestPrices => highest_prices(random),
-            FortyGrades => [forty_grades(random), forty_grades(random)],
+            FortyGrades => [(); 2].map(|()| any_forty_grades(random)),
             EmptyGrades => empty_grades(random),
             OneDefault => single(random, |one, others| (one, others)),
             OneSurvivor => single(random, |one, others| (others, one)),
@@ -188,7 +188,7 @@ pub(crate) fn scale_of(random: &mut Random, (defaults, survivors): (u64, u64)) -
 }
 
 /// D and S of so many obligors, both at least 1.
-fn totals(random: &mut Random, obligors: u64) -> (u64, u64) {
+pub(crate) fn totals(random: &mut Random, obligors: u64) -> (u64, u64) {
     let any = random.between(1, obligors - 1);
     let defaults = random.pick(&[1, any, any, any, obligors / 2, obligors - 1]);
     (defaults, obligors - defaults)
@@ -352,9 +352,13 @@ fn highest_prices(random: &mut Random) -> [Table; 2] {
     [table(random), table(random)]
 }
 
-fn forty_grades(random: &mut Random) -> Table {
+fn any_forty_grades(random: &mut Random) -> Table {
     let obligors = random.pick(&[80, 1_000, MAX_OBLIGORS_ON_SHARES]);
-    let (defaults, survivors) = totals(random, obligors);
+    let totals = totals(random, obligors);
+    forty_grades(random, totals)
+}
+
+pub(crate) fn forty_grades(random: &mut Random, (defaults, survivors): (u64, u64)) -> Table {
     let bad = shares(random, defaults, MAX_GRADES);
     let good = shares(random, survivors, MAX_GRADES);
     let rows: Vec<(u64, u64)> = bad.iter().zip(good).map(|(d, s)| (d + s, *d)).collect();
@@ -417,7 +421,7 @@ fn nearly_equal(random: &mut Random) -> [Table; 2] {
 
 /// A table of two grades, the worse of which has these defaults and survivors. The curve of its
 /// shares has two legs, which meet at the worse grade's shares.
-fn two_legs((defaults, survivors): (u64, u64), worse: (u64, u64)) -> Table {
+pub(crate) fn two_legs((defaults, survivors): (u64, u64), worse: (u64, u64)) -> Table {
     let better = (defaults - worse.0, survivors - worse.1);
     Table::of_rows(&[
         (better.0 + better.1, better.0),

@@ -2,7 +2,7 @@
 
 use crate::cutoff::cutoffs;
 use crate::generate::Generator;
-use crate::script::{MAX_POOL_LENGTH, MAX_WRITE_LENGTH};
+use crate::script::{MAX_LENT_NUMBERS, MAX_WRITE_LENGTH};
 use crate::table::MILLION;
 
 impl Generator {
@@ -19,7 +19,7 @@ impl Generator {
         let grades = table.map_or(3, |table| table.grades.len());
         let occupied = table.map_or(3, |table| table.occupied());
         let exact = 3 * grades as u32;
-        let any = self.random.between(0, MAX_POOL_LENGTH as u64) as u32;
+        let any = self.random.between(0, MAX_LENT_NUMBERS as u64) as u32;
         self.random.weighted(&[
             (1, 0),
             (3, exact - 1),
@@ -27,7 +27,7 @@ impl Generator {
             (3, exact + 1),
             (1, grades as u32),
             (1, 3 * occupied as u32),
-            (1, MAX_POOL_LENGTH),
+            (1, MAX_LENT_NUMBERS),
             (1, any),
         ])
     }

@@ -186,6 +186,7 @@ impl Generator {
             pair.damage(&mut self.random, &mut draft, index);
             let raters: Vec<u32> = (1..).take(draft.raters()).collect();
             draft.rater = self.random.pick(&raters);
+            self.list_now_and_then(&draft.bytes);
             let place = self.random.pick(&[1, 2]);
             self.empty(place);
             self.load_faulty(place, draft, pair);

@@ -5,6 +5,7 @@ use crate::pooling::pooled_scale;
 use crate::population::{announce, any_grade_count, any_table, shares, sort_by_rate};
 use crate::random::Random;
 use crate::table::{Table, MAX_GRADES, MAX_OBLIGORS};
+use std::cmp::Ordering;
 
 /// A table with at least one default and one survivor.
 pub fn mixed_outcomes(random: &mut Random) -> Table {
@@ -166,6 +167,17 @@ pub(crate) fn coarser(random: &mut Random, base: &Table) -> Table {
 
 /// Splits some grades in two at random, the better part first.
 fn finer(random: &mut Random, base: &Table) -> Table {
+    split(random, base, |one, other| one.cmp(&other))
+}
+
+/// Splits some grades in two at random, the worse part first: if the rates of the base rise, an
+/// equal table of another look.
+pub(crate) fn split_falling(random: &mut Random, base: &Table) -> Table {
+    split(random, base, |one, other| other.cmp(&one))
+}
+
+/// Splits some grades in two at random, their rates, to one denominator, in this order.
+fn split(random: &mut Random, base: &Table, order: fn(u64, u64) -> Ordering) -> Table {
     let mut rows = Vec::new();
     for (index, grade) in base.grades.iter().enumerate() {
         let left = base.grades.len() - index;
@@ -177,7 +189,7 @@ fn finer(random: &mut Random, base: &Table) -> Table {
             continue;
         }
         let mut parts = [(part, defaults), (rest, grade.defaults - defaults)];
-        parts.sort_by(|one, other| (one.1 * other.0).cmp(&(other.1 * one.0)));
+        parts.sort_by(|one, other| order(one.1 * other.0, other.1 * one.0));
         rows.extend(parts);
     }
     Table::of_rows(&rows)

@@ -14,24 +14,25 @@ use crate::table::{Table, MAX_GRADES, MAX_OBLIGORS};
 pub type Scene = (&'static str, fn(&mut Generator));
 
 /// How often each scene is taken, in proportion.
-pub const SCENES: [(u64, Scene); 17] = [
-    (38, ("two raters, same obligors", Generator::same_obligors)),
+pub const SCENES: [(u64, Scene); 18] = [
+    (36, ("two raters, same obligors", Generator::same_obligors)),
     (8, ("two raters, other obligors", Generator::other_obligors)),
-    (14, ("one table, all questions", Generator::one_table)),
-    (50, ("far from the diagonal", Generator::far_from_diagonal)),
+    (12, ("one table, all questions", Generator::one_table)),
+    (58, ("far from the diagonal", Generator::far_from_diagonal)),
     (56, ("damaged book", Generator::damaged_book)),
     (27, ("several faults at once", Generator::several_faults)),
-    (35, ("book cut wrong", Generator::book_cut_wrong)),
-    (25, ("two faults of a table", Generator::two_faults)),
+    (38, ("book cut wrong", Generator::book_cut_wrong)),
+    (30, ("two faults of a table", Generator::two_faults)),
     (2, ("junk for a book", Generator::junk_book)),
-    (4, ("wandering calls", Generator::wandering)),
+    (5, ("wandering calls", Generator::wandering)),
     (5, ("at the limits", Generator::limits)),
-    (40, ("at a band's limit", Generator::at_band_limit)),
-    (16, ("some grades empty", Generator::some_empty)),
-    (16, ("all grades empty, or nearly", Generator::nearly_empty)),
-    (14, ("announced rates out of step", Generator::out_of_step)),
-    (34, ("raters of different books", Generator::other_books)),
-    (5, ("write and load back", Generator::write_and_load)),
+    (48, ("at a band's limit", Generator::at_band_limit)),
+    (17, ("some grades empty", Generator::some_empty)),
+    (19, ("all grades empty, or nearly", Generator::nearly_empty)),
+    (21, ("announced rates out of step", Generator::out_of_step)),
+    (40, ("raters of different books", Generator::other_books)),
+    (34, ("shortlist of a whole book", Generator::whole_book)),
+    (7, ("write and load back", Generator::write_and_load)),
 ];
 
 impl Generator {
@@ -59,12 +60,13 @@ impl Generator {
         self.compare_both_ways();
     }
 
-    /// Now and then on shares too, where other tables are refused.
+    /// Now and then on shares too, where other tables are refused, or as a book's only raters.
     pub(crate) fn compare_both_ways(&mut self) {
         self.emit(Call::Compare);
         if self.random.chance(40) {
             self.emit(Call::CompareShares);
         }
+        self.list_places();
     }
 
     fn one_table(&mut self) {
@@ -116,6 +118,7 @@ impl Generator {
         let mut draft = Draft::around(&mut self.random, &table);
         let (_, damage) = any_way(&mut self.random);
         damage(&mut self.random, &mut draft);
+        self.list_now_and_then(&draft.bytes);
         self.load(place, draft);
     }
 
@@ -134,6 +137,7 @@ impl Generator {
             let (_, damage) = self.random.pick(&ways);
             damage(&mut self.random, &mut draft);
         }
+        self.list_now_and_then(&draft.bytes);
         self.load(place, draft);
     }
 
@@ -161,6 +165,7 @@ impl Generator {
                 old.copy_from_slice(&header);
             }
         }
+        self.list(&book);
         let rater = self.random.between(0, 3) as u32;
         self.emit(Call::Load { place, rater, book });
     }
@@ -181,7 +186,7 @@ impl Generator {
 
     fn any_load(&mut self) {
         let place = self.any_place();
-        let table = self.partner_of_other_place(place);
+        let table = self.partner_of(3u32.saturating_sub(place));
         let mut draft = Draft::around(&mut self.random, &table);
         match self.random.between(0, 9) {
             0 => self.flip_byte(&mut draft),
@@ -191,10 +196,9 @@ impl Generator {
         self.load(place, draft);
     }
 
-    /// A table over the obligors of the other place, if it is loaded; else any table.
-    fn partner_of_other_place(&mut self, place: u32) -> Table {
-        let other = 3u32.saturating_sub(place);
-        match self.desk.table(other) {
+    /// A table over the obligors of the place, if it is loaded; else any table.
+    pub(crate) fn partner_of(&mut self, place: u32) -> Table {
+        match self.desk.table(place) {
             Ok(table) if self.random.chance(80) => partner(&mut self.random, table),
             _ => any_table(&mut self.random),
         }
@@ -208,7 +212,7 @@ impl Generator {
     /// One call that leaves the desk unchanged.
     fn question(&mut self) {
         let place = self.any_place();
-        match self.random.between(0, 7) {
+        match self.random.between(0, 8) {
             0 => {
                 let length = self.pool_length(place);
                 self.emit(Call::Pool { place, length });
@@ -222,6 +226,7 @@ impl Generator {
             4 => self.emit(Call::Brier { place }),
             5 => self.emit(Call::Spread { place }),
             6 => self.emit(Call::CompareShares),
+            7 => self.any_shortlist(),
             _ => {
                 let length = self.write_length();
                 self.emit(Call::Write { length });

@@ -3,11 +3,11 @@
 use crate::book;
 use std::fmt;
 
-/// The longest buffer that a script may lend to pool, in numbers.
-pub const MAX_POOL_LENGTH: u32 = 512;
+/// The longest buffer that a script may lend to pool or shortlist, in numbers.
+pub const MAX_LENT_NUMBERS: u32 = 512;
 /// The longest buffer that a script may lend to write, in bytes.
 pub const MAX_WRITE_LENGTH: u32 = 8_192;
-/// The longest book that a script may lend to load, in bytes.
+/// The longest book that a script may lend to load or shortlist, in bytes.
 pub const MAX_BOOK_LENGTH: u32 = 65_535;
 
 #[derive(Clone, Debug, PartialEq, Eq)]
@@ -43,6 +43,10 @@ pub enum Call {
         length: u32,
     },
     CompareShares,
+    Shortlist {
+        length: u32,
+        book: Vec<u8>,
+    },
 }
 
 impl Call {
@@ -63,15 +67,22 @@ impl Call {
             Call::Spread { place } => vec![8, place],
             Call::Write { length } => vec![9, length],
             Call::CompareShares => vec![10],
+            Call::Shortlist { length, ref book } => vec![11, length, book.len() as u32],
+        }
+    }
+
+    /// The book that the call is lent, if it is lent one.
+    pub fn book(&self) -> Option<&[u8]> {
+        match self {
+            Call::Load { book, .. } | Call::Shortlist { book, .. } => Some(book),
+            _ => None,
         }
     }
 
     pub fn encode(&self) -> Vec<u8> {
         let numbers = self.numbers();
         let mut bytes: Vec<u8> = numbers.iter().flat_map(|n| n.to_le_bytes()).collect();
-        if let Call::Load { book, .. } = self {
-            bytes.extend(book);
-        }
+        bytes.extend(self.book().unwrap_or_default());
         bytes
     }
 
@@ -87,6 +98,7 @@ impl Call {
             Call::Spread { .. } => "spread",
             Call::Write { .. } => "write",
             Call::CompareShares => "compare_shares",
+            Call::Shortlist { .. } => "shortlist",
         }
     }
 }
@@ -98,15 +110,20 @@ impl fmt::Display for Call {
         for operand in &self.numbers()[1..] {
             write!(out, " {operand}")?;
         }
-        if let Call::Load { rater, book, .. } = self {
+        if let Some(book) = self.book() {
             let shown = &book[..book.len().min(1_024)];
             write!(out, "\n  book {}", crate::answer::hex(shown))?;
             if shown.len() < book.len() {
                 write!(out, "..")?;
             }
-            write!(out, "\n  read {:?}", book::read(book, *rater))?;
         }
-        Ok(())
+        match self {
+            Call::Load { rater, book, .. } => {
+                write!(out, "\n  read {:?}", book::read(book, *rater))
+            }
+            Call::Shortlist { book, .. } => write!(out, "\n  read {:?}", book::read_all(book)),
+            _ => Ok(()),
+        }
     }
 }
 
@@ -138,13 +155,17 @@ impl<'a> Reader<'a> {
     /// None for an unknown operation, an operand cut short or a length above its limit.
     fn call(&mut self) -> Option<Call> {
         Some(match self.number()? {
-            1 => self.load()?,
+            1 => Call::Load {
+                place: self.number()?,
+                rater: self.number()?,
+                book: self.book()?,
+            },
             2 => Call::Clear {
                 place: self.number()?,
             },
             3 => Call::Pool {
                 place: self.number()?,
-                length: self.length(MAX_POOL_LENGTH)?,
+                length: self.length(MAX_LENT_NUMBERS)?,
             },
             4 => Call::Cheapest {
                 place: self.number()?,
@@ -165,16 +186,18 @@ impl<'a> Reader<'a> {
                 length: self.length(MAX_WRITE_LENGTH)?,
             },
             10 => Call::CompareShares,
+            11 => Call::Shortlist {
+                length: self.length(MAX_LENT_NUMBERS)?,
+                book: self.book()?,
+            },
             _ => return None,
         })
     }
 
-    fn load(&mut self) -> Option<Call> {
-        let place = self.number()?;
-        let rater = self.number()?;
+    /// A length, then so many bytes.
+    fn book(&mut self) -> Option<Vec<u8>> {
         let length = self.length(MAX_BOOK_LENGTH)?;
-        let book = self.bytes(length as usize)?.to_vec();
-        Some(Call::Load { place, rater, book })
+        Some(self.bytes(length as usize)?.to_vec())
     }
 }
 

@@ -157,7 +157,7 @@ impl Generator {
         }
     }
 
-    fn show_desk(&mut self) {
+    pub(crate) fn show_desk(&mut self) {
         let length = self.desk.book_length().unwrap_or(46) as u32;
         let place = self.random.pick(&[1, 2]);
         let question = match self.random.between(0, 5) {

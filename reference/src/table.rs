@@ -81,3 +81,24 @@ impl Table {
         self.grades.iter().map(Grade::survivors).sum()
     }
 }
+
+/// What a comparison of any number of tables needs: 23 over all of them, then 24 over all.
+pub fn check_outcomes(tables: &[&Table]) -> Result<(), Refusal> {
+    if tables.iter().any(|table| table.defaults() == 0) {
+        return Err(23);
+    }
+    if tables.iter().any(|table| table.survivors() == 0) {
+        return Err(24);
+    }
+    Ok(())
+}
+
+/// 25 where D or S differ between any two.
+pub fn check_same_totals(tables: &[&Table]) -> Result<(), Refusal> {
+    let totals = |table: &Table| (table.defaults(), table.survivors());
+    let differ = |one: &&Table| tables.iter().any(|other| totals(one) != totals(other));
+    match tables.iter().any(differ) {
+        true => Err(25),
+        false => Ok(()),
+    }
+}

@@ -1,10 +1,11 @@
 //! How often one run exercises which operations, verdicts, kinds of Pietra, rates at the limits of
-//! bands, empty grades, announced rates, tables of two lenders, refusal numbers, books cut wrong,
-//! pairs of faults, buffers and scenes.
+//! bands, empty grades, announced rates, tables of two lenders, raters of whole books, refusal
+//! numbers, books cut wrong, pairs of faults, buffers and scenes.
 
 use crate::announced_tally::AnnouncedTally;
 use crate::answer::{verdict_name, Answer};
 use crate::band_scene::{every_edge, Edge, SIDES};
+use crate::book::MAX_RATERS;
 use crate::compare::plan;
 use crate::cut_scene::Cut;
 use crate::desk::Desk;
@@ -15,6 +16,8 @@ use crate::pair_scene::{every_pair, FaultPair, Where};
 use crate::pooling::{band, blocks, Rate};
 use crate::script::Call;
 use crate::shares_tally::SharesTally;
+use crate::shortlist::shortlist;
+use crate::shortlist_tally::ShortlistTally;
 use crate::table::{Refusal, Table};
 use std::cmp::Ordering;
 use std::collections::BTreeMap;
@@ -35,6 +38,7 @@ pub struct Tally {
     empty: EmptyTally,
     announced: AnnouncedTally,
     shares: SharesTally,
+    shortlist: ShortlistTally,
     /// For each refusal number, the calls of each operation.
     refusals: BTreeMap<Refusal, BTreeMap<&'static str, usize>>,
     cuts: BTreeMap<Cut, CutLoads>,
@@ -51,6 +55,10 @@ struct CutLoads {
     by_rater: [usize; 3],
     answers: Answers,
 }
+
+/// Fits of buffers that are too short.
+const FOR_OCCUPIED: &str = "just enough for the occupied grades";
+const FOR_LISTED: &str = "just enough for the raters listed";
 
 /// How often each refusal number was the answer, or none.
 pub(crate) type Answers = BTreeMap<Option<Refusal>, usize>;
@@ -83,6 +91,9 @@ impl Tally {
             self.announced.add(call, &answer, rates);
             let lenders = marks.lenders.get(&index).copied();
             self.shares.add(&desk, &answer, lenders);
+            let rivals = marks.rivals.get(&index).copied();
+            let fault = marks.faults.get(&index).copied();
+            self.shortlist.add(call, &answer, rivals, fault);
             if let Some(&cut) = marks.cuts.get(&index) {
                 self.add_cut(cut, call, &answer);
             }
@@ -122,22 +133,27 @@ impl Tally {
     }
 
     fn add_buffer(&mut self, desk: &Desk, call: &Call) {
-        let mut of_occupied = None;
+        let mut of_fewer = None;
         let (needed, lent) = match *call {
             Call::Pool { place, length } => {
                 let table = desk.table(place).ok();
-                of_occupied = table.map(|table| 3 * table.occupied());
+                of_fewer = table.map(|table| (3 * table.occupied(), FOR_OCCUPIED));
                 (table.map(|table| 3 * table.grades.len()), length)
             }
             Call::Write { length } => (desk.book_length(), length),
+            Call::Shortlist { length, ref book } => {
+                let listed = shortlist(book, &mut [0; MAX_RATERS]).ok();
+                of_fewer = listed.map(|listed| (listed, FOR_LISTED));
+                (listed.map(|_| book[0].into()), length)
+            }
             _ => return,
         };
         let Some(needed) = needed else { return };
         let lent = lent as usize;
-        let fit = match needed {
+        let fit = match of_fewer {
             _ if lent == needed => "exact",
             _ if lent > needed => "longer",
-            _ if of_occupied == Some(lent) => "just enough for the occupied grades",
+            Some((fewer, fit)) if lent == fewer => fit,
             _ if lent + 1 == needed => "one too short",
             _ => "shorter still",
         };
@@ -192,6 +208,11 @@ impl Tally {
                 &self.shares.prices,
             ),
             self.shares.place_table(),
+            self.shortlist.case_table(),
+            self.shortlist.rater_table(),
+            self.shortlist.single_table(),
+            self.shortlist.pair_table(),
+            self.shortlist.book_table(),
             self.refusal_table(),
             self.cut_table(),
             self.pair_table(),

@@ -457,7 +457,7 @@ fn operation_10_has_no_operands() {
     };
     let both = vec![Call::CompareShares, Call::Compare];
     assert_eq!(decode(&numbers(&[10, 5])), (both.clone(), false));
-    assert_eq!(decode(&numbers(&[10, 5, 11, 5])), (both, true));
+    assert_eq!(decode(&numbers(&[10, 5, 12, 5])), (both, true));
     assert_eq!(decode(&numbers(&[256 + 10])), (vec![], true));
     assert_eq!(decode(&[10, 0, 0]), (vec![], true));
 }

@@ -2,6 +2,7 @@
 //! a run has all of them.
 
 use desks::desk_with;
+use played::calls_of;
 use reference::answer::{verdict_name, Answer};
 use reference::compare::plan;
 use reference::desk::Desk;
@@ -21,6 +22,7 @@ use Holds::*;
 use Lenders::*;
 
 mod desks;
+mod played;
 mod tallied;
 
 const SCENE: &str = "raters of different books";
@@ -194,23 +196,6 @@ fn places_are_told_apart_at_the_limit() {
         };
         assert!(expected.iter().all(|size| sizes.contains(size)), "{holds}");
     }
-}
-
-/// Calls of one scene of scripts, each with the desk that it found and its answer.
-fn calls_of(scene: &str) -> Vec<(Call, Desk, Answer)> {
-    let mut found = vec![];
-    for seed in 0..300 {
-        let script = Script::generate(seed, 100);
-        let mut desk = Desk::fresh();
-        for (call, &name) in script.calls.iter().zip(&script.scenes) {
-            let before = desk.clone();
-            let answer = desk.call(call);
-            if name == scene {
-                found.push((call.clone(), before, answer));
-            }
-        }
-    }
-    found
 }
 
 /// What the first comparison has a verdict of is compared both ways, in either order; the others

@@ -1,5 +1,8 @@
 //! Small tables, on which all prices that matter can be tried.
 
+// Each test takes from here what it needs.
+#![allow(dead_code)]
+
 use reference::cutoff::{Price, Verdict};
 use reference::random::Random;
 use reference::table::Table;
@@ -15,6 +18,15 @@ pub fn small_table(random: &mut Random, defaults: u64, survivors: u64) -> Table 
         row.1 += u64::from(person < defaults);
     }
     Table::of_rows(&rows)
+}
+
+/// All prices up to the highest.
+pub fn small_prices(highest: u64) -> impl Iterator<Item = Price> {
+    let price = |missed_default, lost_survivor| Price {
+        missed_default,
+        lost_survivor,
+    };
+    (0..=highest).flat_map(move |u| (0..=highest).map(move |v| price(u, v)))
 }
 
 /// A comparison: how the first's cheapest cost stands to the second's, and the verdict.
@@ -34,11 +46,7 @@ pub fn assert_all_prices_agree(
     for seed in 0..4_000 {
         let [first, second] = pair(&mut Random::of_seed(seed));
         let (mut first_dearer, mut second_dearer) = (false, false);
-        for (u, v) in (0..=highest).flat_map(|u| (0..=highest).map(move |v| (u, v))) {
-            let price = Price {
-                missed_default: u,
-                lost_survivor: v,
-            };
+        for price in small_prices(highest) {
             let costs = (comparison.costs)(&first, &second, &price);
             first_dearer |= costs == Ordering::Greater;
             second_dearer |= costs == Ordering::Less;
