@@ -35,7 +35,7 @@ impl Answer {
 
 /// Whether the price pairs of a verdict are in range and show what it says.
 fn shown(verdict: &Verdict, case: &Case) -> bool {
-    let [first, second] = &case.tables;
+    let (first, second) = (&case.tables[0], &case.tables[1]);
     let dearer: Dearer = match case.call {
         Call::CompareShares => dearer_on_shares,
         _ => dearer,

@@ -15,6 +15,7 @@ pub enum Call {
     },
     Compare,
     CompareShares,
+    Shortlist,
     Measures,
     Brier,
     Spread,
@@ -25,13 +26,14 @@ pub struct Case {
     pub name: &'static str,
     pub shape: &'static str,
     pub call: Call,
-    /// What stands in the two places; for load, the table of the last rater stands first.
-    pub tables: [Table; 2],
+    /// What stands in the two places; for load, the table of the last rater stands first. For shortlist, the raters of its book.
+    pub tables: Vec<Table>,
     /// The kind of the first column of the book that load reads.
     pub kind: u8,
 }
 
 const GRADES: u64 = 40;
+const RATERS: usize = 16;
 
 fn rows(of: &Table) -> Vec<(u64, u64)> {
     of.grades.iter().map(|grade| (grade.obligors, grade.defaults)).collect()
@@ -123,12 +125,12 @@ fn blurred(of: &Table, grade: usize) -> Table {
     blurred
 }
 
-fn case(name: &'static str, shape: &'static str, call: Call, tables: [Table; 2]) -> Case {
+fn case(name: &'static str, shape: &'static str, call: Call, tables: impl Into<Vec<Table>>) -> Case {
     Case {
         name,
         shape,
         call,
-        tables,
+        tables: tables.into(),
         kind: 0,
     }
 }
@@ -165,6 +167,26 @@ fn comparisons_on_shares() -> Vec<Case> {
     ]
 }
 
+/// On books of 16 raters, and on one of two.
+fn shortlists() -> Vec<Case> {
+    let (rising, mixed) = (rising(), mixed());
+    let blurred_at = |grade| blurred(&rising, grade);
+    let worse = |(table, grade): &(Table, usize)| Some((blurred(table, *grade), grade + 2));
+    let chain = std::iter::successors(Some((rising.clone(), 5)), worse);
+    let best_first: Vec<_> = chain.map(|(table, _)| table).take(RATERS).collect();
+    let best_last: Vec<_> = best_first.iter().rev().cloned().collect();
+    let shortlist = |shape, tables| case("shortlist", shape, Call::Shortlist, tables);
+    vec![
+        shortlist("equal, 40 blocks", vec![rising.clone(); RATERS]),
+        shortlist("best first, 40 blocks", best_first),
+        shortlist("best last, 40 blocks", best_last),
+        shortlist("crossing, 40 blocks", (5..).map(blurred_at).take(RATERS).collect()),
+        shortlist("random", (1..).map(|seed| shuffled(&mixed, seed)).take(RATERS).collect()),
+        shortlist("equal, one block", vec![upside_down(&rising); RATERS]),
+        shortlist("two crossing, 40 blocks", vec![blurred_at(6), blurred_at(8)]),
+    ]
+}
+
 pub fn cases() -> Vec<Case> {
     let prices = Call::Cheapest { u: 1_000, v: 70 };
     let falling = || upside_down(&rising());
@@ -185,6 +207,7 @@ pub fn cases() -> Vec<Case> {
     ];
     cases.extend(comparisons());
     cases.extend(comparisons_on_shares());
+    cases.extend(shortlists());
     cases.extend([
         case("measures", "40 blocks", Call::Measures, alone(rising())),
         case("measures", "random", Call::Measures, alone(mixed())),
@@ -201,16 +224,15 @@ pub fn cases() -> Vec<Case> {
 impl Case {
     /// The book that load reads: 16 raters of 40 grades, the last one's table being the first of the case.
     pub fn full_book(&self) -> Vec<u8> {
-        let others: Vec<Table> = (1..16).map(|seed| random(seed, 24_000)).collect();
+        let others: Vec<Table> = (1..RATERS as u64).map(|seed| random(seed, 24_000)).collect();
         let mut tables: Vec<(&Table, u8)> = others.iter().map(|table| (table, 0)).collect();
         tables.push((&self.tables[0], self.kind));
         reference::book::write_kinds(&tables)
     }
 
-    /// The book from which the two places are loaded.
+    /// The book of the case's tables, from which the two places are loaded.
     pub fn book(&self) -> Vec<u8> {
-        let [first, second] = &self.tables;
-        reference::book::write(&[first, second])
+        reference::book::write(&self.tables.iter().collect::<Vec<_>>())
     }
 }
 
@@ -250,22 +272,51 @@ mod tests {
     #[test]
     fn comparisons_are_as_named() {
         for case in comparisons().iter().chain(&comparisons_on_shares()) {
-            let [first, second] = &case.tables;
+            let (first, second) = (&case.tables[0], &case.tables[1]);
             let on_shares = matches!(case.call, Call::CompareShares);
             let verdict = if on_shares { verdict_on_shares } else { verdict };
             if let Some((named, _)) = case.shape.split_once(", ") {
                 assert_eq!(word(verdict(first, second)), named);
             }
-            let expected = match case.shape.split_once(", ") {
-                Some((_, "40 blocks")) => 40..=40,
-                Some(_) => 1..=1,
-                None => 2..=20,
-            };
-            for table in &case.tables {
-                assert!(expected.contains(&blocks(table).len()), "{}: {}", case.name, case.shape);
-                assert!(!on_shares || table.obligors() <= MAX_OBLIGORS_ON_SHARES);
-            }
+            assert_blocks_as_named(case);
+            assert!(!on_shares || case.tables.iter().all(|table| table.obligors() <= MAX_OBLIGORS_ON_SHARES));
             assert_eq!(on_shares, first.obligors() != second.obligors());
+        }
+    }
+
+    fn assert_blocks_as_named(case: &Case) {
+        let expected = match case.shape.split_once(", ") {
+            Some((_, "40 blocks")) => 40..=40,
+            Some(_) => 1..=1,
+            None => 2..=20,
+        };
+        for table in &case.tables {
+            assert!(expected.contains(&blocks(table).len()), "{}: {}", case.name, case.shape);
+        }
+    }
+
+    /// The verdicts on each rater and every later one.
+    fn verdicts(tables: &[Table]) -> Vec<&'static str> {
+        let verdicts_on = |(index, first)| tables[index + 1..].iter().map(move |second| word(verdict(first, second)));
+        tables.iter().enumerate().flat_map(verdicts_on).collect()
+    }
+
+    #[test]
+    fn shortlists_are_as_named() {
+        for case in shortlists() {
+            assert_blocks_as_named(&case);
+            let found = verdicts(&case.tables);
+            let expected = match case.shape.split_once(", ") {
+                Some(("equal", _)) => "equal",
+                Some(("best first", _)) => "first",
+                Some(("best last", _)) => "second",
+                Some(_) => "crossing",
+                None => {
+                    assert!(["first", "second", "crossing"].iter().all(|word| found.contains(word)));
+                    continue;
+                }
+            };
+            assert!(found.iter().all(|word| *word == expected), "{}: {found:?}", case.shape);
         }
     }
 }

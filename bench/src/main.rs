@@ -64,12 +64,17 @@ fn differences(case: &Case) -> Vec<String> {
 #[cfg(test)]
 mod tests {
     use super::*;
+    use answer::Answer;
     use cases::Call;
+    use reference::draft::Draft;
     use reference::lenders::every_lenders;
     use reference::partners::{one_sided, other_obligors, same_obligors};
     use reference::population::any_table;
     use reference::random::Random;
+    use reference::rivals::every_rivals;
+    use reference::shortlist_scene::every_fault;
     use reference::table::Table;
+    use version::Version;
 
     /// Both comparisons on these tables.
     fn compare(tables: [Table; 2]) {
@@ -78,7 +83,7 @@ mod tests {
                 name: "compare",
                 shape: "any",
                 call,
-                tables: tables.clone(),
+                tables: tables.to_vec(),
                 kind: 0,
             };
             assert_eq!(differences(&case), [""; 0], "{tables:?}");
@@ -97,6 +102,35 @@ mod tests {
                 compare(pair(&mut random).into());
             }
             compare([any_table(&mut random), any_table(&mut random)]);
+        }
+    }
+
+    fn shortlisted<V: Version>(book: &[u8], room: usize) -> (Answer, Vec<u32>) {
+        let mut numbers = vec![u32::MAX; room];
+        (V::shortlist(book, &mut numbers).into(), numbers)
+    }
+
+    /// With buffers that are long enough for the book's raters, for all but one, and longer.
+    fn list(book: &[u8], raters: usize) {
+        for room in [raters, raters - 1, raters + 2] {
+            let expected = shortlisted::<ReferenceDesk>(book, room);
+            assert_eq!(shortlisted::<proved::Desk>(book, room), expected, "proved: {book:?}");
+            assert_eq!(shortlisted::<plain::Desk>(book, room), expected, "optimised: {book:?}");
+        }
+    }
+
+    #[test]
+    fn shortlists_agree_on_random_books() {
+        let mut random = Random::of_seed(7);
+        for _ in 0..10 {
+            for rivals in every_rivals() {
+                let tables = rivals.tables(&mut random);
+                list(&Draft::of_tables(&mut random, &tables, 1).bytes, tables.len());
+            }
+            for fault in every_fault() {
+                let faulty = fault.book(&mut random);
+                list(&faulty.book, faulty.raters);
+            }
         }
     }
 }

@@ -7,11 +7,17 @@ use std::ffi::CString;
 use std::hint::black_box;
 use std::time::{Duration, Instant};
 
-/// Calls between two looks at the counter or the clock.
-const CALLS: usize = 16;
 /// Looks at the clock, of which the median counts: so many, or fewer where they would take longer than a tenth of a second.
 const LOOKS: usize = 1_001;
 const LONGEST: Duration = Duration::from_millis(100);
+
+/// Calls between two looks at the counter or the clock: a shortlist by definition is up to 240 comparisons.
+fn calls_a_look(call: Call) -> usize {
+    match call {
+        Call::Shortlist => 1,
+        _ => 16,
+    }
+}
 
 /// A desk as the case's call finds it, and what the call is lent.
 struct Scene<V> {
@@ -58,6 +64,7 @@ impl<V: Version> Scene<V> {
             Call::Cheapest { u, v } => times.for_each(|_| drop(black_box(desk.cheapest(black_box(1), black_box(u), black_box(v))))),
             Call::Compare => times.for_each(|_| drop(black_box(black_box(desk).compare()))),
             Call::CompareShares => times.for_each(|_| drop(black_box(black_box(desk).compare_shares()))),
+            Call::Shortlist => times.for_each(|_| drop(black_box(V::shortlist(black_box(&self.book), black_box(&mut self.numbers))))),
             Call::Measures => times.for_each(|_| drop(black_box(desk.measures(black_box(1))))),
             Call::Brier => times.for_each(|_| drop(black_box(desk.brier(black_box(1))))),
             Call::Spread => times.for_each(|_| drop(black_box(desk.spread(black_box(1))))),
@@ -69,23 +76,25 @@ impl<V: Version> Scene<V> {
 /// Has callgrind count the calls of a case. What its setting up counted is written down apart.
 pub fn count<V: Version>(case: &Case) {
     let mut scene = Scene::<V>::of(case);
-    let mut desks = vec![scene.desk.clone(); CALLS];
+    let calls = calls_a_look(case.call);
+    let mut desks = vec![scene.desk.clone(); calls];
     callgrind::dump(c"setup");
     scene.calls(case.call, &mut desks);
-    let label = format!("{} {CALLS} {}:{}", V::NAME, case.name, case.shape);
+    let label = format!("{} {calls} {}:{}", V::NAME, case.name, case.shape);
     callgrind::dump(&CString::new(label).expect("no label has a zero byte"));
 }
 
 /// Prints the median time of a call in nanoseconds.
 pub fn time<V: Version>(case: &Case) {
     let mut scene = Scene::<V>::of(case);
+    let calls = calls_a_look(case.call);
     let mut times = Vec::new();
     let first = Instant::now();
     while times.len() < LOOKS && (times.is_empty() || first.elapsed() < LONGEST) {
-        let mut desks = black_box(vec![scene.desk.clone(); CALLS]);
+        let mut desks = black_box(vec![scene.desk.clone(); calls]);
         let start = Instant::now();
         scene.calls(case.call, &mut desks);
-        times.push(start.elapsed().as_nanos() as f64 / CALLS as f64);
+        times.push(start.elapsed().as_nanos() as f64 / calls as f64);
     }
     times.sort_by(f64::total_cmp);
     println!("{} {:.1} {}:{}", V::NAME, times[times.len() / 2], case.name, case.shape);
@@ -121,6 +130,7 @@ pub fn outcome<V: Version>(case: &Case) -> Outcome {
         Call::Cheapest { u, v } => desk.cheapest(1, u, v).into(),
         Call::Compare => desk.compare().into(),
         Call::CompareShares => desk.compare_shares().into(),
+        Call::Shortlist => V::shortlist(book, numbers).into(),
         Call::Measures => desk.measures(1).into(),
         Call::Brier => desk.brier(1).into(),
         Call::Spread => desk.spread(1).into(),

@@ -50,6 +50,11 @@ pub fn compare_shares(desk: &Desk) -> Result<Verdict, u32> {
 }
 
 #[inline(always)]
+pub fn shortlist(book: &[u8], numbers: &mut [u32]) -> Result<usize, u32> {
+    answered(|listed| sys::shortlist(book, numbers, listed))
+}
+
+#[inline(always)]
 pub fn measures(desk: &Desk, place: u32) -> Result<Measures, u32> {
     answered(|answer| sys::measures(desk, place, answer))
 }

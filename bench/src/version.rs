@@ -13,50 +13,53 @@ pub trait Version: Clone {
     fn cheapest(&self, place: u32, u: u32, v: u32) -> impl Into<Answer>;
     fn compare(&self) -> impl Into<Answer>;
     fn compare_shares(&self) -> impl Into<Answer>;
+    fn shortlist(book: &[u8], numbers: &mut [u32]) -> impl Into<Answer>;
     fn measures(&self, place: u32) -> impl Into<Answer>;
     fn brier(&self, place: u32) -> impl Into<Answer>;
     fn spread(&self, place: u32) -> impl Into<Answer>;
     fn write(&self, book: &mut [u8]) -> impl Into<Answer>;
 }
 
-/// Functions under a name that callgrind finds, one for each call on a desk.
+/// Functions under a name that callgrind finds, one for each call.
 macro_rules! entry_points {
-    ($($name:ident: $desk:ty, $call:ident($($argument:ident: $type:ty),*) -> $answer:ty;)*) => {$(
+    ($($name:ident: $($call:ident)::+($($argument:ident: $type:ty),*) -> $answer:ty;)*) => {$(
         #[no_mangle]
         #[inline(never)]
-        fn $name(desk: $desk, $($argument: $type),*) -> $answer {
-            desk.$call($($argument),*)
+        fn $name($($argument: $type),*) -> $answer {
+            $($call)::+($($argument),*)
         }
     )*};
 }
 
 entry_points! {
-    plain_load: &mut plain::Desk, load(place: u32, book: &[u8], rater: u32) -> Result<(), u32>;
-    plain_clear: &mut plain::Desk, clear(place: u32) -> Result<(), u32>;
-    plain_pool: &plain::Desk, pool(place: u32, numbers: &mut [u32]) -> Result<(), u32>;
-    plain_cheapest: &plain::Desk, cheapest(place: u32, u: u32, v: u32) -> Result<plain::Cheapest, u32>;
-    plain_compare: &plain::Desk, compare() -> Result<plain::Verdict, u32>;
-    plain_compare_shares: &plain::Desk, compare_shares() -> Result<plain::Verdict, u32>;
-    plain_measures: &plain::Desk, measures(place: u32) -> Result<plain::Measures, u32>;
-    plain_brier: &plain::Desk, brier(place: u32) -> Result<plain::Fraction, u32>;
-    plain_spread: &plain::Desk, spread(place: u32) -> Result<plain::Spread, u32>;
-    plain_write: &plain::Desk, write(book: &mut [u8]) -> Result<usize, u32>;
-    reference_load: &mut ReferenceDesk, load(place: u32, rater: u32, book: &[u8]) -> Result<(), u32>;
-    reference_clear: &mut ReferenceDesk, clear(place: u32) -> Result<(), u32>;
-    reference_pool: &ReferenceDesk, pool(place: u32, numbers: &mut [u32]) -> Result<(), u32>;
-    reference_cheapest: &ReferenceDesk, cheapest(place: u32, u: u32, v: u32) -> Result<(u32, u64), u32>;
-    reference_compare: &ReferenceDesk, compare() -> Result<reference::cutoff::Verdict, u32>;
-    reference_compare_shares: &ReferenceDesk, compare_shares() -> Result<reference::cutoff::Verdict, u32>;
-    reference_measures: &ReferenceDesk, measures(place: u32) -> Result<reference::measures::Measures, u32>;
-    reference_brier: &ReferenceDesk, brier(place: u32) -> Result<(u64, u64), u32>;
-    reference_spread: &ReferenceDesk, spread(place: u32) -> Result<reference::spread::Spread, u32>;
-    reference_write: &ReferenceDesk, write(book: &mut [u8]) -> Result<usize, u32>;
+    plain_load: plain::Desk::load(desk: &mut plain::Desk, place: u32, book: &[u8], rater: u32) -> Result<(), u32>;
+    plain_clear: plain::Desk::clear(desk: &mut plain::Desk, place: u32) -> Result<(), u32>;
+    plain_pool: plain::Desk::pool(desk: &plain::Desk, place: u32, numbers: &mut [u32]) -> Result<(), u32>;
+    plain_cheapest: plain::Desk::cheapest(desk: &plain::Desk, place: u32, u: u32, v: u32) -> Result<plain::Cheapest, u32>;
+    plain_compare: plain::Desk::compare(desk: &plain::Desk) -> Result<plain::Verdict, u32>;
+    plain_compare_shares: plain::Desk::compare_shares(desk: &plain::Desk) -> Result<plain::Verdict, u32>;
+    plain_shortlist: plain::shortlist(book: &[u8], numbers: &mut [u32]) -> Result<usize, u32>;
+    plain_measures: plain::Desk::measures(desk: &plain::Desk, place: u32) -> Result<plain::Measures, u32>;
+    plain_brier: plain::Desk::brier(desk: &plain::Desk, place: u32) -> Result<plain::Fraction, u32>;
+    plain_spread: plain::Desk::spread(desk: &plain::Desk, place: u32) -> Result<plain::Spread, u32>;
+    plain_write: plain::Desk::write(desk: &plain::Desk, book: &mut [u8]) -> Result<usize, u32>;
+    reference_load: ReferenceDesk::load(desk: &mut ReferenceDesk, place: u32, rater: u32, book: &[u8]) -> Result<(), u32>;
+    reference_clear: ReferenceDesk::clear(desk: &mut ReferenceDesk, place: u32) -> Result<(), u32>;
+    reference_pool: ReferenceDesk::pool(desk: &ReferenceDesk, place: u32, numbers: &mut [u32]) -> Result<(), u32>;
+    reference_cheapest: ReferenceDesk::cheapest(desk: &ReferenceDesk, place: u32, u: u32, v: u32) -> Result<(u32, u64), u32>;
+    reference_compare: ReferenceDesk::compare(desk: &ReferenceDesk) -> Result<reference::cutoff::Verdict, u32>;
+    reference_compare_shares: ReferenceDesk::compare_shares(desk: &ReferenceDesk) -> Result<reference::cutoff::Verdict, u32>;
+    reference_shortlist: reference::shortlist::shortlist(book: &[u8], numbers: &mut [u32]) -> Result<usize, u32>;
+    reference_measures: ReferenceDesk::measures(desk: &ReferenceDesk, place: u32) -> Result<reference::measures::Measures, u32>;
+    reference_brier: ReferenceDesk::brier(desk: &ReferenceDesk, place: u32) -> Result<(u64, u64), u32>;
+    reference_spread: ReferenceDesk::spread(desk: &ReferenceDesk, place: u32) -> Result<reference::spread::Spread, u32>;
+    reference_write: ReferenceDesk::write(desk: &ReferenceDesk, book: &mut [u8]) -> Result<usize, u32>;
 }
 
-/// The face of a version, from the function that makes an empty desk and those that make the calls on it.
+/// The face of a version, from the function that makes an empty desk and those that make the calls.
 macro_rules! version {
     ($name:literal, $desk:ty, $empty:path, $load:expr, $clear:path, $pool:path, $cheapest:path, $compare:path, $compare_shares:path,
-     $measures:path, $brier:path, $spread:path, $write:path) => {
+     $shortlist:path, $measures:path, $brier:path, $spread:path, $write:path) => {
         impl Version for $desk {
             const NAME: &'static str = $name;
             fn empty() -> Self {
@@ -85,6 +88,10 @@ macro_rules! version {
             #[inline(always)]
             fn compare_shares(&self) -> impl Into<Answer> {
                 $compare_shares(self)
+            }
+            #[inline(always)]
+            fn shortlist(book: &[u8], numbers: &mut [u32]) -> impl Into<Answer> {
+                $shortlist(book, numbers)
             }
             #[inline(always)]
             fn measures(&self, place: u32) -> impl Into<Answer> {
@@ -116,6 +123,7 @@ version!(
     proved::cheapest,
     proved::compare,
     proved::compare_shares,
+    proved::shortlist,
     proved::measures,
     proved::brier,
     proved::spread,
@@ -131,6 +139,7 @@ version!(
     plain_cheapest,
     plain_compare,
     plain_compare_shares,
+    plain_shortlist,
     plain_measures,
     plain_brier,
     plain_spread,
@@ -146,6 +155,7 @@ version!(
     reference_cheapest,
     reference_compare,
     reference_compare_shares,
+    reference_shortlist,
     reference_measures,
     reference_brier,
     reference_spread,

@@ -1,5 +1,5 @@
-//! The byte format: reading a rater's table into a place, writing tables.
-use super::{Place, Refusal, Table, GRADES, MILLION};
+//! The byte format: reading the table of one rater or of each, writing tables.
+use super::{Place, Refusal, Table, GRADES, MILLION, RATERS};
 
 fn two(bytes: &[u8], at: usize) -> usize {
     u16::from_le_bytes([bytes[at], bytes[at + 1]]) as usize
@@ -11,13 +11,7 @@ fn four(row: &[u8; 12], at: usize) -> u32 {
 
 /// Reads the table of a rater into an empty place, which stays empty where the reading is refused.
 pub fn read(book: &[u8], rater: u32, place: &mut Place) -> Result<(), Refusal> {
-    if book.len() < 4 || two(book, 2) != book.len() {
-        return Err(2);
-    }
-    let raters = two(book, 0);
-    if !(1..=16).contains(&raters) || book.len() < 4 + 2 * raters {
-        return Err(3);
-    }
+    let raters = count_raters(book)?;
     let rater = rater as usize;
     if rater < 1 || rater > raters {
         return Err(4);
@@ -29,6 +23,29 @@ pub fn read(book: &[u8], rater: u32, place: &mut Place) -> Result<(), Refusal> {
         *place = Place::EMPTY;
     }
     read
+}
+
+/// Reads the tables of all raters, one after the other, and hands over each with its index. Answers how many there are.
+pub fn read_each(book: &[u8], mut hand_over: impl FnMut(usize, &Table)) -> Result<usize, Refusal> {
+    let raters = count_raters(book)?;
+    check_layout(book, raters)?;
+    let mut place = Place::EMPTY;
+    for (index, start) in book[4..4 + 2 * raters].chunks_exact(2).enumerate() {
+        read_rows(&book[two(start, 0)..], &mut place)?;
+        hand_over(index, &place.table()?);
+    }
+    Ok(raters)
+}
+
+fn count_raters(book: &[u8]) -> Result<usize, Refusal> {
+    if book.len() < 4 || two(book, 2) != book.len() {
+        return Err(2);
+    }
+    let raters = two(book, 0);
+    if !(1..=RATERS).contains(&raters) || book.len() < 4 + 2 * raters {
+        return Err(3);
+    }
+    Ok(raters)
 }
 
 /// The starts, heads and ends of all tables, and that nothing follows them.

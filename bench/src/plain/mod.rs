@@ -6,16 +6,20 @@ mod book;
 mod cutoff;
 mod measures;
 mod pooling;
+mod shortlist;
 mod spread;
 mod verdict;
 
 pub use cutoff::Cheapest;
 pub use measures::{Fraction, Measures};
+pub use shortlist::shortlist;
 pub use spread::Spread;
 pub use verdict::Verdict;
 
 /// The most grades of a table.
 const GRADES: usize = 40;
+/// The most raters of a book.
+const RATERS: usize = 16;
 /// The most obligors of a table; also the highest price and the whole in ppm.
 const MILLION: u32 = 1_000_000;
 /// The most obligors of a table that is compared on shares.
@@ -82,10 +86,28 @@ impl Table<'_> {
 }
 
 /// N and D.
-#[derive(Clone, Copy, PartialEq)]
+#[derive(Clone, Copy, Default, PartialEq)]
 struct Totals {
     obligors: u32,
     defaults: u32,
+}
+
+/// That each table has a default, and that each has a survivor.
+fn check_outcomes(totals: &[Totals]) -> Result<(), Refusal> {
+    if totals.iter().any(|of| of.defaults == 0) {
+        return Err(23);
+    }
+    if totals.iter().any(|of| of.defaults == of.obligors) {
+        return Err(24);
+    }
+    Ok(())
+}
+
+fn check_same(totals: &[Totals]) -> Result<(), Refusal> {
+    if totals.iter().any(|of| *of != totals[0]) {
+        return Err(25);
+    }
+    Ok(())
 }
 
 #[derive(Clone, Copy)]
@@ -154,20 +176,13 @@ impl Desk {
     fn both(&self) -> Result<([Table<'_>; 2], [Totals; 2]), Refusal> {
         let tables = [self.first.table()?, self.second.table()?];
         let totals = tables.map(|table| table.totals());
-        if totals.iter().any(|of| of.defaults == 0) {
-            return Err(23);
-        }
-        if totals.iter().any(|of| of.defaults == of.obligors) {
-            return Err(24);
-        }
+        check_outcomes(&totals)?;
         Ok((tables, totals))
     }
 
     pub fn compare(&self) -> Result<Verdict, Refusal> {
         let (tables, totals) = self.both()?;
-        if totals[0] != totals[1] {
-            return Err(25);
-        }
+        check_same(&totals)?;
         Ok(verdict::judge(tables.each_ref()))
     }
 

@@ -18,13 +18,13 @@ pub enum Verdict {
 
 /// How often each default and each survivor of a scale counts.
 #[derive(Clone, Copy)]
-struct Weights {
+pub struct Weights {
     defaults: u32,
     survivors: u32,
 }
 
 impl Weights {
-    const ONCE: Weights = Weights { defaults: 1, survivors: 1 };
+    pub const ONCE: Weights = Weights { defaults: 1, survivors: 1 };
 
     /// Shares times D and S of both tables are counts, each table's in the other's totals.
     fn of_other(totals: Totals) -> Weights {
@@ -55,7 +55,7 @@ impl Weights {
 /// What a run of neighbouring grades weighs. On shares a scale weighs D1 D2 and S1 S2 in all, and D S of a table of at most 100,000 obligors is at
 /// most 50,000 times 50,000: so defaults times survivors, of whichever scales, are at most 2,500,000,000 squared, which is below 2^63.
 #[derive(Clone, Copy)]
-struct Block {
+pub struct Block {
     defaults: i64,
     survivors: i64,
 }
@@ -79,14 +79,14 @@ impl Block {
 
 /// The blocks of a scale, the worst first. They count no grades, which only pool asks for, and are weighed before they are pooled: once for
 /// each grade, where a sweep would weigh each block whenever it looks at it.
-struct Scale {
+pub struct Scale {
     defaults: [i64; GRADES],
     survivors: [i64; GRADES],
     count: usize,
 }
 
 impl Scale {
-    const NONE: Scale = Scale {
+    pub const NONE: Scale = Scale {
         defaults: [0; GRADES],
         survivors: [0; GRADES],
         count: 0,
@@ -103,7 +103,7 @@ impl Scale {
 
     /// From the worst grade to the best. An empty grade is below none, so it joins the block behind it, or the grade before it joins it.
     #[inline(always)] // so that weights of 1 cost nothing
-    fn pool(&mut self, table: &Table, weights: Weights) {
+    pub fn pool(&mut self, table: &Table, weights: Weights) {
         let mut count = 0;
         for (obligors, defaults) in table.counts().rev() {
             let mut block = weights.weigh(obligors, defaults);
@@ -129,7 +129,7 @@ impl Scale {
 /// A block of the first at whose break-even prices the first costs more; both weigh the same in all. They are tried from the worst block on:
 /// there it is cheapest to turn away the worse blocks of the first, and of the second those whose survivors cost no more than their defaults.
 /// What decides is by how much more the second turns away: whether the defaults of this lead save more than its survivors cost.
-fn where_dearer(first: &Scale, second: &Scale) -> Option<Block> {
+pub fn where_dearer(first: &Scale, second: &Scale) -> Option<Block> {
     let mut lead = Block { defaults: 0, survivors: 0 };
     let mut others = second.worst_first();
     let mut next = others.next();
