@@ -10,9 +10,10 @@ use Rattle.table.specs.Place.{gradesFrom, tableOf, placeOf}
 use Rattle.table.proofs.Placed.{table-placed}
 use Rattle.book.specs.Bytes.{twoAt, fourAt, twoBytes, fourBytes}
 use Rattle.book.specs.Checks.{fault, firstFault}
-use Rattle.book.specs.Layout.{headChecks, raterChecks, tableChecks, tablesFaultFrom}
-use Rattle.book.specs.Rows.{gradeIn, gradesIn, rowChecks, laterChecks, laterFault, rowsFault, totalChecks, tableFault}
-use Rattle.book.specs.Reading.{readFault}
+use Rattle.book.specs.Layout.{headChecks, raterChecks, tableChecks, tablesFaultFrom, layoutFault}
+use Rattle.book.specs.Rows.{gradeIn, gradesIn, tablesIn, rowChecks, laterChecks, laterFault, rowsFault, totalChecks, tableFault}
+use Rattle.book.specs.Reading.{readFault, tableFaults, bookFault}
+use Rattle.book.specs.Encode.{encodeGrade, encodeGrades, encodeTable, encodeTables, offsets, endsAt, encode}
 use Rattle.pooling.specs.Fraction.{ratio, sum}
 use Rattle.pooling.specs.Pool.{front, pool}
 use Rattle.pooling.specs.Band.{bandFrom}
@@ -30,13 +31,18 @@ use Rattle.shares.specs.Verdict.{neverDearerByShares, DearerByShares, IsVerdict
 use Rattle.shares.proofs.Shares.{cheapest-share, dearer-by-shares}
 use Rattle.measures.specs.Pairs.{concordant, discordant, tied}
 use Rattle.measures.specs.Measures.{measuresOf}
+use Rattle.shortlist.specs.Shortlist as shortlist
+use Rattle.shortlist.specs.Shortlist.{unbeaten, listed}
+use Rattle.shortlist.specs.Checks as listing
+use Rattle.shortlist.specs.Checks.{someChecks, equalChecks, sameChecks, totalsFault, shortlistFault}
 use Rattle.calls.specs.Answers.{Answer, accepted, refused, Limited}
 use Rattle.calls.specs.Calls.{load, changeFault, compareFault, pairChecks}
 use Rattle.calls.specs.Shares.{sharesFault, sharesChecks}
 use Rattle.desk.specs.Calls.{change, numberOf}
 use Rattle.demands.specs.History.{deskFrom, deskAfter, heldFrom, held, table}
 use Rattle.demands.specs.Worked as worked
-use Rattle.demands.specs.Worked.{row, bookK, tableK, empty, bookOf, swappedK, five, fine, coarse, worstApart, bestApart, price, Between}
+use Rattle.demands.specs.Worked.{row, announcing, nobodys, bookK, tableK, empty, bookOf, swappedK, five, fine, coarse, worstApart, bestApart, price, Between}
+use Rattle.demands.specs.Worked.{oneGrade, coarseAndFine, noDefault, noSurvivor, otherDefaults, otherSurvivors}
 use Rattle.demands.specs.Worked.{coarseTwice, bestApartTwice, manySurvived, manyDefaulted, OnShares}
 
 -- Books, as they stand in the bytes: K, those of R-4's case line, and K with two rates swapped.
@@ -47,6 +53,37 @@ read :
     × (numberOf (deskAfter []) (change 1 (load swappedK 1)) ≡ 34)
 unfolding deskFrom heldFrom changeFault readFault headChecks raterChecks tableChecks tablesFaultFrom gradeIn gradesIn rowChecks laterChecks laterFault rowsFault totalChecks tableFault fault firstFault twoAt fourAt twoBytes fourBytes obligorsIn occupied
 read = (refl, refl, refl, refl)
+
+-- R-7: lists of raters, a book of two, and the checks of totals.
+lists :
+    (listed (five ∷ []) ≡ 1 ∷ [])
+    × (listed (coarse ∷ coarse ∷ coarse ∷ []) ≡ 1 ∷ 2 ∷ 3 ∷ [])
+    × (listed (oneGrade ∷ coarse ∷ fine ∷ []) ≡ 3 ∷ [])
+    × (listed (fine ∷ coarse ∷ oneGrade ∷ []) ≡ 1 ∷ [])
+    × (listed (coarse ∷ fine ∷ oneGrade ∷ fine ∷ []) ≡ 2 ∷ 4 ∷ [])
+    × (listed (worstApart ∷ bestApart ∷ []) ≡ 1 ∷ 2 ∷ [])
+    × (listed (oneGrade ∷ worstApart ∷ bestApart ∷ []) ≡ 2 ∷ 3 ∷ [])
+unfolding listed shortlist.numbersOf unbeaten all cheapestOf best cost turnedAway pool front occupied defaultsIn survivorsIn
+lists = (refl, refl, refl, refl, refl, refl, refl)
+
+listing-book :
+    (listing.bufferAfter coarseAndFine (7 ∷ 8 ∷ 9 ∷ []) ≡ 2 ∷ 8 ∷ 9 ∷ [])
+    × (shortlistFault coarseAndFine 2 ≡ 0)
+    × (shortlistFault coarseAndFine 1 ≡ 13)
+unfolding shortlistFault listing.bufferOr bookFault layoutFault tableFaults someChecks equalChecks sameChecks encode encodeTables encodeTable encodeGrades encodeGrade offsets endsAt tablesIn headChecks tableChecks tablesFaultFrom gradeIn gradesIn rowChecks laterChecks laterFault rowsFault totalChecks tableFault fault firstFault twoAt fourAt twoBytes fourBytes obligorsIn occupied listed shortlist.numbersOf unbeaten all cheapestOf best cost turnedAway pool front defaultsIn survivorsIn
+listing-book = (refl, refl, refl)
+
+in-order : tableFaults ((announcing 1_000_000 4 ∷ announcing 1 4 ∷ []) ∷ (nobodys ∷ []) ∷ []) ≡ 11
+unfolding tableFaults rowChecks laterChecks laterFault rowsFault totalChecks tableFault fault firstFault obligorsIn occupied
+in-order = refl
+
+totals :
+    (totalsFault (coarse ∷ noSurvivor ∷ noDefault ∷ []) ≡ 23)
+    × (totalsFault (coarse ∷ otherDefaults ∷ noSurvivor ∷ []) ≡ 24)
+    × (totalsFault (coarse ∷ coarse ∷ otherDefaults ∷ []) ≡ 25)
+    × (totalsFault (otherSurvivors ∷ coarse ∷ coarse ∷ []) ≡ 25)
+unfolding someChecks equalChecks sameChecks fault firstFault defaultsIn survivorsIn
+totals = (refl, refl, refl, refl)
 
 -- Verdicts.
 
@@ -212,4 +249,15 @@ Worked = record {
   r6-second-larger = refl;
   r6-after-24 = (refl, refl);
   r6-after-23 = (refl, refl);
+  r7-one = lists .0;
+  r7-equal = lists .1;
+  r7-chain = (lists .2, lists .3);
+  r7-two-best = lists .4;
+  r7-crossing = (lists .5, lists .6);
+  r7-buffer = listing-book .0;
+  r7-room = (listing-book .1, listing-book .2);
+  r7-in-order = in-order;
+  r7-23-first = totals .0;
+  r7-24-first = totals .1;
+  r7-25 = (totals .2, totals .3);
 }

@@ -9,6 +9,8 @@ use Rattle.table.specs.Place.{placeOf}
 use Rattle.book.specs.Bytes.{fourBytes}
 use Rattle.book.specs.Checks.{fault}
 use Rattle.book.specs.Rows.{laterChecks, tableFault}
+use Rattle.book.specs.Reading.{tableFaults}
+use Rattle.book.specs.Encode.{encode}
 use Rattle.pooling.specs.Fraction.{ratio}
 use Rattle.pooling.specs.Pool.{pooledScale}
 use Rattle.pooling.specs.Numbers.{pooledInto}
@@ -20,6 +22,9 @@ use Rattle.cutoff.specs.declared.Verdict.the-variants.{Equal, First, Second, Cr
 use Rattle.shares.specs.Shares.{IsCheapestShare}
 use Rattle.measures.specs.Pairs.{concordant, discordant, tied}
 use Rattle.measures.specs.Measures.{height, measuresOf}
+use Rattle.shortlist.specs.Shortlist.{listed}
+use Rattle.shortlist.specs.Checks as listing
+use Rattle.shortlist.specs.Checks.{totalsFault, shortlistFault}
 use Rattle.calls.specs.Answers.{Answer, accepted}
 use Rattle.calls.specs.Calls.{load, compareFault, Compared}
 use Rattle.calls.specs.Shares.{sharesFault, ComparedByShares}
@@ -123,6 +128,26 @@ manyDefaulted = row 5 4 ∷ row 5 4 ∷ []
 abbrev pub OnShares : Table → Table → Answer Verdict → Type 0
 OnShares t₁ t₂ r = ComparedByShares (placeOf t₁) (placeOf t₂) r
 
+-- R-7: one grade over the same obligors as `fine` and `coarse`; a book of `coarse` and `fine`
+abbrev pub oneGrade : Table
+oneGrade = row 6 3 ∷ []
+
+abbrev pub coarseAndFine : List ℕ
+coarseAndFine = encode (coarse ∷ fine ∷ [])
+
+-- tables without a default, without a survivor, and with other totals than `coarse`: in D, in S
+abbrev pub noDefault : Table
+noDefault = row 6 0 ∷ []
+
+abbrev pub noSurvivor : Table
+noSurvivor = row 3 3 ∷ []
+
+abbrev pub otherDefaults : Table
+otherDefaults = row 7 4 ∷ []
+
+abbrev pub otherSurvivors : Table
+otherSurvivors = row 7 3 ∷ []
+
 pub record Worked : Type 0 where
   -- K pools as printed.
   pub a-read : held 1 (change 1 (load bookK 1) ∷ []) ≡ table tableK
@@ -218,3 +243,18 @@ pub record Worked : Type 0 where
       × (sharesFault (placeOf (row 2 2 ∷ [])) (placeOf (row 100_001 1 ∷ [])) ≡ 24)
   pub r6-after-23 : (sharesFault (placeOf (row 100_001 1 ∷ [])) (placeOf (row 2 0 ∷ [])) ≡ 23)
       × (sharesFault (placeOf (row 2 0 ∷ [])) (placeOf (row 100_001 1 ∷ [])) ≡ 23)
+  -- R-7: one rater; all equal; a chain, from either end; two equal best; crossing ones, which also beat one grade
+  pub r7-one : listed (five ∷ []) ≡ 1 ∷ []
+  pub r7-equal : listed (coarse ∷ coarse ∷ coarse ∷ []) ≡ 1 ∷ 2 ∷ 3 ∷ []
+  pub r7-chain : (listed (oneGrade ∷ coarse ∷ fine ∷ []) ≡ 3 ∷ []) × (listed (fine ∷ coarse ∷ oneGrade ∷ []) ≡ 1 ∷ [])
+  pub r7-two-best : listed (coarse ∷ fine ∷ oneGrade ∷ fine ∷ []) ≡ 2 ∷ 4 ∷ []
+  pub r7-crossing : (listed (worstApart ∷ bestApart ∷ []) ≡ 1 ∷ 2 ∷ []) × (listed (oneGrade ∷ worstApart ∷ bestApart ∷ []) ≡ 2 ∷ 3 ∷ [])
+  -- "into a lent buffer whose further numbers are kept"; "13 for a buffer shorter than R", even where fewer are listed
+  pub r7-buffer : listing.bufferAfter coarseAndFine (7 ∷ 8 ∷ 9 ∷ []) ≡ 2 ∷ 8 ∷ 9 ∷ []
+  pub r7-room : (shortlistFault coarseAndFine 2 ≡ 0) × (shortlistFault coarseAndFine 1 ≡ 13)
+  -- "the row checks, 9 and 11 of each rater in book order": 11 of the first before 8 of the second
+  pub r7-in-order : tableFaults ((announcing 1_000_000 4 ∷ announcing 1 4 ∷ []) ∷ (nobodys ∷ []) ∷ []) ≡ 11
+  -- "Then 23 is tested over all raters, then 24 over all, then 25 between any two"
+  pub r7-23-first : totalsFault (coarse ∷ noSurvivor ∷ noDefault ∷ []) ≡ 23
+  pub r7-24-first : totalsFault (coarse ∷ otherDefaults ∷ noSurvivor ∷ []) ≡ 24
+  pub r7-25 : (totalsFault (coarse ∷ coarse ∷ otherDefaults ∷ []) ≡ 25) × (totalsFault (otherSurvivors ∷ coarse ∷ coarse ∷ []) ≡ 25)

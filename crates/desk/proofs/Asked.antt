@@ -18,9 +18,7 @@ use Rattle.calls.specs.Calls.{emptyFault, Question, questionFault, Filling, fil
 use Rattle.calls.proofs.Asked.{is-loaded}
 use Rattle.desk.specs.declared.Desk.{Desk}
 use Rattle.desk.specs.Desk.{placeAt, tableAt, SoundDesk}
-use Rattle.shortlist.specs.Shortlist.{listed}
-use Rattle.shortlist.specs.Checks.{countOr}
-use Rattle.desk.specs.Answers.{shortlistSays, writtenSays}
+use Rattle.desk.specs.Answers.{writtenSays}
 use Rattle.desk.specs.Calls.{placeFault, ask, fill, numberOf, lentAfter}
 
 pub place-sound : (d : Desk) (i : ℕ) → SoundDesk d → SoundPlace (placeAt d i)
@@ -88,9 +86,3 @@ pub says-written : (n : ℕ) (ts : List Table) → writtenSays (lengthOr n ts) �
 unfolding lengthOr
 says-written zero ts = refl
 says-written (suc n) ts = refl
-
--- A shortlist, whose fault is n.
-pub says-listed : (n : ℕ) (ts : List Table) → shortlistSays (countOr n ts) ≡ answer n (length (listed ts))
-unfolding countOr
-says-listed zero ts = refl
-says-listed (suc n) ts = refl

@@ -1,9 +1,7 @@
--- What the cases of the desk's own answers, and those of books as a whole, say in the documents' terms. Those of questions are in the crate `calls`.
+-- What the cases of the desk's own answers say in document 01's terms. Those of questions are in the crate `calls`.
 use Prim.Native.Nat.{ℕ}
 use Rattle.book.specs.declared.Written.{Written}
 use Rattle.book.specs.declared.Written.the-variants as written
-use Rattle.shortlist.specs.declared.Shortlisted.{Shortlisted}
-use Rattle.shortlist.specs.declared.Shortlisted.the-variants as shortlisted
 use Rattle.calls.specs.Answers.{Answer, accepted, refused}
 use Rattle.desk.specs.declared.Ack.{Ack}
 use Rattle.desk.specs.declared.Ack.the-variants as ack
@@ -17,8 +15,3 @@ ackSays (ack.Refused n) = refused n
 abbrev pub writtenSays : Written → Answer ℕ
 writtenSays (written.Length n) = accepted n
 writtenSays (written.Refused n) = refused n
-
--- how many raters are listed
-abbrev pub shortlistSays : Shortlisted → Answer ℕ
-shortlistSays (shortlisted.Count n) = accepted n
-shortlistSays (shortlisted.Refused n) = refused n

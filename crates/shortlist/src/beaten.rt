@@ -31,12 +31,10 @@ fn better_of(held: &[u32], i: usize, j: usize) -> Winner
         } else {
             Winner::First
         }
+    } else if never_dearer(second, first) {
+        Winner::Second
     } else {
-        if never_dearer(second, first) {
-            Winner::Second
-        } else {
-            Winner::Neither
-        }
+        Winner::Neither
     }
 }
 

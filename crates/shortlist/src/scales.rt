@@ -84,9 +84,9 @@ fn read_scale(book: &[u8], start: usize, scale: &mut [u32]) -> u32
     ensures length { λ _. ⌜ length (now (scale .exit)) ≡ scaleSize ⌝ }
 {
     let mut place = [0u32; PLACE];
-    let fault = read_table(book, start, &mut place);
-    if fault != 0 {
-        return fault;
+    let number = read_table(book, start, &mut place);
+    if number != 0 {
+        return number;
     }
     hold(&place, scale);
     0
@@ -103,10 +103,10 @@ pub fn read_scales(book: &[u8], held: &mut [u32]) -> u32
     let raters = raters_of(book);
     let mut rater: usize = 0;
     while rater < raters {
-        let at = SCALE * rater;
-        let end = at + SCALE;
+        let from = SCALE * rater;
+        let to = from + SCALE;
         rater += 1;
-        let fault = read_scale(book, start_of(book, rater), &mut held[at..end]);
+        let fault = read_scale(book, start_of(book, rater), &mut held[from..to]);
         if fault != 0 {
             return fault;
         }

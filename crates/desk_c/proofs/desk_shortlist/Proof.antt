@@ -7,9 +7,7 @@ use Rattle.book.specs.Reading.{allTables}
 use Rattle.shortlist.specs.Shortlist.{listed}
 use Rattle.shortlist.specs.Checks.{shortlistFault}
 use Rattle.calls.specs.Answers.{answer}
-use Rattle.desk.specs.Answers.{shortlistSays}
-use Rattle.desk.proofs.Asked.{says-listed}
-use Rattle.desk_c.proofs.Answered.{accepted-is, kept}
+use Rattle.desk_c.proofs.Answered.{accepted-is, kept, shortlistSays, says-listed}
 use Rattle.desk_c.proofs.desk_shortlist.Statement.{statement}
 use Rattle.desk_c.proofs.desk_shortlist.Tie as tie
 

@@ -34,17 +34,32 @@ behind c =
     rw (← s .range-of2 .ensures, ← d .before .before .range-of .ensures, ne-eqb _ 0 (d .if1 .left), ne-eqb _ 0 (c .if2 .left)) refl
 
 returns-3 : tie.Need-returns-3
-returns-3 c = rw (ne-eqb _ _ (c .if3 .taken)) at (behind (c .before .before))
+returns-3 c =
+    let d = c .before .before .before .before .before .before .before .range-of .result in
+    rw (ne-eqb (d .least) (d .most) (c .if3 .taken)) at (behind (c .before .before))
+
+-- Behind D.
+behind-defaults : (c : tie.Else3) →
+    let e = c .before .before in
+    let s = e .before .before .range-of2 .result in
+    let a = e .before .before .before .before .before .before .before .args in
+    cond (eqb (s .least) (s .most)) 0 25 ≡ heldTotalsFault (now (a .held)) (a .raters)
+behind-defaults c =
+    let e = c .before .before in
+    let d = e .before .before .before .before .before .range-of .result in
+    rw (eq-eqb (d .least) (d .most) (c .if3 .left)) at (behind e)
 
 returns-4 : tie.Need-returns-4
 returns-4 c =
     let e = c .before .before in
-    rw (eq-eqb _ _ (e .if3 .left), ne-eqb _ _ (c .if4 .taken)) at (behind (e .before .before))
+    let s = e .before .before .before .before .range-of2 .result in
+    rw (ne-eqb (s .least) (s .most) (c .if4 .taken)) at (behind-defaults e)
 
 returns-5 : tie.Need-returns-5
 returns-5 c =
     let e = c .before .before in
-    rw (eq-eqb _ _ (e .if3 .left), eq-eqb _ _ (c .if4 .left)) at (behind (e .before .before))
+    let s = e .before .before .before .before .range-of2 .result in
+    rw (eq-eqb (s .least) (s .most) (c .if4 .left)) at (behind-defaults e)
 
 pub totals-fault-spec : {M : Type 1} → statement M
 totals-fault-spec =
