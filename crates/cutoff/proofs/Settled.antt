@@ -17,7 +17,7 @@ use Rattle.cutoff.proofs.Dominance.{NoDearerAt, at-least-as-good}
 
 -- The test.
 
-both : (x y : Bool) → T (x && y) ↔ (T x × T y)
+pub both : (x y : Bool) → T (x && y) ↔ (T x × T y)
 both true y = (λ h. (tt, h), λ h. h .1)
 both false y = (λ h. absurd h, λ h. h .0)
 

@@ -1,15 +1,14 @@
 -- What an accepted shortlist leaves in the buffer is the shortlist, and any two raters of its book can be compared.
-use Prim.Native.Nat.{ℕ, _≤_}
-use mathlib.Core.Path.{_≡_, refl, sym, ap, _∙_}
-use mathlib.Core.List.{List, _++_}
+use Prim.Native.Nat.{ℕ}
+use mathlib.Core.Path.{_≡_, refl}
+use mathlib.Core.List.{List}
 use lib.ListN.{length, take, drop}
 use lib.Seq.{take-at}
-use Rattle.table.specs.Table.{Table}
 use Rattle.book.specs.Rows.{tableOfRater}
 use Rattle.book.specs.Reading.{allTables}
 use Rattle.cutoff.specs.declared.Verdict.{Verdict}
 use Rattle.shortlist.specs.Shortlist.{listed}
-use Rattle.shortlist.specs.Checks.{shortlistFault, bufferOr}
+use Rattle.shortlist.specs.Checks.{bufferOr}
 use Rattle.shortlist.specs.Claims.{Rater}
 use Rattle.shortlist.proofs.Books.{not-refused, comparable, book-unbeaten, in-order, book-equals, book-beaten, book-some}
 use Rattle.calls.specs.Answers.{Answer}

@@ -5,6 +5,7 @@ use mathlib.Core.Bool.{Bool, true, false}
 use mathlib.Core.List.{[], _∷_}
 use native.Mathlib.Omega.{arith}
 use lib.Dec.{lit<, lit≤}
+use lib.Seq.{sets}
 use Rattle.table.specs.Table.{Table, Every, Counted, Mixed, occupied, survivorsIn, defaultsIn, obligorsIn}
 use Rattle.table.specs.Place.{gradesFrom, tableOf, placeOf}
 use Rattle.table.proofs.Placed.{table-placed}
@@ -70,8 +71,12 @@ listing-book :
     (listing.bufferAfter coarseAndFine (7 ∷ 8 ∷ 9 ∷ []) ≡ 2 ∷ 8 ∷ 9 ∷ [])
     × (shortlistFault coarseAndFine 2 ≡ 0)
     × (shortlistFault coarseAndFine 1 ≡ 13)
+    × (shortlistFault (sets swappedK 6 (2 ∷ [])) 1 ≡ 33)
+    × (shortlistFault swappedK 1 ≡ 34)
+    × (shortlistFault (bookOf 0 0) 1 ≡ 9)
+    × (shortlistFault (bookOf 5 0) 0 ≡ 23)
 unfolding shortlistFault listing.bufferOr bookFault layoutFault tableFaults someChecks equalChecks sameChecks encode encodeTables encodeTable encodeGrades encodeGrade offsets endsAt tablesIn headChecks tableChecks tablesFaultFrom gradeIn gradesIn rowChecks laterChecks laterFault rowsFault totalChecks tableFault fault firstFault twoAt fourAt twoBytes fourBytes obligorsIn occupied listed shortlist.numbersOf unbeaten all cheapestOf best cost turnedAway pool front defaultsIn survivorsIn
-listing-book = (refl, refl, refl)
+listing-book = (refl, refl, refl, refl, refl, refl, refl)
 
 in-order : tableFaults ((announcing 1_000_000 4 ∷ announcing 1 4 ∷ []) ∷ (nobodys ∷ []) ∷ []) ≡ 11
 unfolding tableFaults rowChecks laterChecks laterFault rowsFault totalChecks tableFault fault firstFault obligorsIn occupied
@@ -256,6 +261,9 @@ Worked = record {
   r7-crossing = (lists .5, lists .6);
   r7-buffer = listing-book .0;
   r7-room = (listing-book .1, listing-book .2);
+  r7-layout-first = listing-book .3;
+  r7-rows-next = (listing-book .4, listing-book .5);
+  r7-totals-next = listing-book .6;
   r7-in-order = in-order;
   r7-23-first = totals .0;
   r7-24-first = totals .1;

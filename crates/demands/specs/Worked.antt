@@ -252,6 +252,11 @@ pub record Worked : Type 0 where
   -- "into a lent buffer whose further numbers are kept"; "13 for a buffer shorter than R", even where fewer are listed
   pub r7-buffer : listing.bufferAfter coarseAndFine (7 ∷ 8 ∷ 9 ∷ []) ≡ 2 ∷ 8 ∷ 9 ∷ []
   pub r7-room : (shortlistFault coarseAndFine 2 ≡ 0) × (shortlistFault coarseAndFine 1 ≡ 13)
+  -- "The layout of the whole book is checked first": K with swapped rates, of which one grade less is told, is 33; then its rows, 34; the rows and 9
+  -- before 23, and 23 before 13
+  pub r7-layout-first : shortlistFault (sets swappedK 6 (2 ∷ [])) 1 ≡ 33
+  pub r7-rows-next : (shortlistFault swappedK 1 ≡ 34) × (shortlistFault (bookOf 0 0) 1 ≡ 9)
+  pub r7-totals-next : shortlistFault (bookOf 5 0) 0 ≡ 23
   -- "the row checks, 9 and 11 of each rater in book order": 11 of the first before 8 of the second
   pub r7-in-order : tableFaults ((announcing 1_000_000 4 ∷ announcing 1 4 ∷ []) ∷ (nobodys ∷ []) ∷ []) ≡ 11
   -- "Then 23 is tested over all raters, then 24 over all, then 25 between any two"

@@ -1,20 +1,13 @@
 -- A book whose shortlist is not refused: its raters can be compared, any two of them.
-use Prim.Native.Nat.{ℕ, suc, _+_, _-_, _≤_, _<_}
-use mathlib.Core.Path.{_≡_, refl, sym, ap, _∙_}
+use Prim.Native.Nat.{ℕ, suc, _≤_}
+use mathlib.Core.Path.{_≡_, refl, sym}
 use mathlib.Core.List.{List, [], _∷_, _++_}
-use native.Mathlib.Omega.{arith}
-use lib.ListN.{length, getD}
-use Rattle.table.specs.Table.{Table, Every, Sound, Mixed, defaultsIn, survivorsIn}
-use Rattle.table.proofs.Every.{every-map₂}
-use Rattle.book.specs.Checks.{Check, at-most, fault}
-use Rattle.book.specs.Layout.{raters}
-use Rattle.book.specs.Rows.{tableOfRater}
+use Rattle.table.specs.Table.{Table, Every, Sound, defaultsIn, survivorsIn}
+use Rattle.book.specs.Checks.{Check, fault}
 use Rattle.book.specs.Reading.{allTables, bookFault}
-use Rattle.book.proofs.Checks.{Holds, held, held-first, found, none, pass, go}
-use Rattle.book.proofs.Whole.{laid, count-tables, table-at, whole-read, tables-sound}
-use Rattle.shortlist.specs.Checks.{someChecks, equalChecks, sameChecks, totalsFault, shortlistFault}
-use Rattle.shortlist.specs.Claims.{Comparable}
-use Rattle.shortlist.proofs.Numbers.{every-at, at-every}
+use Rattle.book.proofs.Checks.{Holds, held, held-first}
+use Rattle.book.proofs.Whole.{tables-sound}
+use Rattle.shortlist.specs.Checks.{someChecks, equalChecks, sameChecks, totalsFault}
 use Rattle.shortlist.proofs.Listed.{Totalled}
 
 module _ (count : Table → ℕ) where

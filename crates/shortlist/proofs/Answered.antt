@@ -1,15 +1,13 @@
 -- The scales that are held of a book's raters answer for its tables: their totals have the fault that the tables' have, and whom no other scale
 -- beats no other table does.
-use Prim.Native.Nat.{ℕ, zero, suc, _+_, _-_, _≤_, _<_}
+use Prim.Native.Nat.{ℕ, zero, suc, _+_, _≤_, _<_}
 use mathlib.Core.Path.{_≡_, refl, sym, ap, _∙_}
-use mathlib.Core.Bool.{Bool}
-use mathlib.Core.List.{List, [], _∷_, map}
+use mathlib.Core.List.{List, [], map}
 use native.Mathlib.Omega.{arith}
 use lib.Dec.{T, eqb, eqb→eq, eqb-refl}
 use lib.ListN.{length, getD, take, length-take}
 use lib.Seq.{getD-take}
-use Rattle.table.specs.Table.{Table, Every, Counted, Sound, defaultsIn, survivorsIn}
-use Rattle.table.specs.Counts.{largest}
+use Rattle.table.specs.Table.{Table, Sound, defaultsIn, survivorsIn}
 use Rattle.table.proofs.Every.{every-map}
 use Rattle.table.proofs.Suffix.{sound-small, few-counts}
 use Rattle.pooling.specs.Pool.{pooledScale}
@@ -23,7 +21,7 @@ use Rattle.cutoff.proofs.Pooled.{pool-alike}
 use Rattle.cutoff.proofs.Judged.{held-scale, sweepable}
 use Rattle.shortlist.specs.Shortlist.{better, unbeaten, listed}
 use Rattle.shortlist.specs.Checks.{totalsFault}
-use Rattle.shortlist.specs.Private.{heldSize, heldOf, blocksHeld, Holds, HoldsAll, totalsFrom, rangeOf, heldTotalsFault, scaleAt, Searchable, beats, allCompared, unmarked}
+use Rattle.shortlist.specs.Private.{heldSize, heldOf, blocksHeld, Holds, HoldsAll, totalsFrom, heldTotalsFault, scaleAt, Searchable, beats, allCompared, unmarked}
 use Rattle.shortlist.proofs.Numbers.{every-at, at-every, numbers-same}
 use Rattle.shortlist.proofs.Order.{unbeaten-every}
 use Rattle.shortlist.proofs.Top.{StrictOrder}

@@ -1,21 +1,21 @@
 -- The claims of a book: who is listed of its raters, by the tables as they stand in it.
-use Prim.Native.Nat.{ℕ, suc, _+_, _-_, _≤_, _<_}
-use mathlib.Core.Path.{_≡_, refl, sym, ap, _∙_}
+use Prim.Native.Nat.{ℕ, _+_, _-_, _≤_, _<_}
+use mathlib.Core.Path.{_≡_, refl, sym, _∙_}
 use mathlib.Core.Logic.{_↔_}
 use mathlib.Core.List.{List, [], _∷_}
 use native.Mathlib.Omega.{arith}
 use borrow.Author.Tests.{le-leb}
-use lib.ListN.{length, getD}
-use Rattle.table.specs.Table.{Table, Every, Sound, Mixed, defaultsIn, survivorsIn}
+use lib.ListN.{length}
+use Rattle.table.specs.Table.{Table, Every, defaultsIn, survivorsIn}
 use Rattle.book.specs.Checks.{at-most, fault}
-use Rattle.book.specs.Layout.{raters, raterChecks, layoutFault}
+use Rattle.book.specs.Layout.{raters, layoutFault}
 use Rattle.book.specs.Rows.{tableOfRater}
 use Rattle.book.specs.Reading.{readFault, allTables, bookFault}
 use Rattle.book.proofs.Checks.{held, held-first, found, none, pass, go}
-use Rattle.book.proofs.Whole.{Laid, laid, count-tables, table-at, whole-read}
+use Rattle.book.proofs.Whole.{laid, count-tables, table-at, whole-read}
 use Rattle.cutoff.specs.Cutoff.{AtLeastAsGood}
 use Rattle.shortlist.specs.Shortlist.{Better, unbeaten, listed}
-use Rattle.shortlist.specs.Checks.{someChecks, sameChecks, totalsFault, shortlistFault}
+use Rattle.shortlist.specs.Checks.{someChecks, shortlistFault}
 use Rattle.shortlist.specs.Claims.{Comparable, Rater, Listed, InBookOrder}
 use Rattle.shortlist.proofs.Numbers.{every-at, at-every, numbers-le, numbers-rise}
 use Rattle.shortlist.proofs.Listed.{Totalled, tableNo, listed-unbeaten, equals-together, unlisted-beaten, never-empty}

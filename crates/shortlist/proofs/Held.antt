@@ -7,7 +7,7 @@ use lib.ListN.{length, getD, set, take, drop, length-take, length-drop, length-s
 use lib.Seq.{paste, length-paste, take-paste, take-length, take-set-le, take-add, length-take-le, take-append-le, drop-append-le, take-at, drop-at, getD-set-same, getD-set-other}
 use Rattle.table.specs.Table.{Table, defaultsIn, survivorsIn}
 use Rattle.pooling.specs.Private.{blockWords, spanning}
-use Rattle.shortlist.specs.Private.{scaleSize, heldSize, heldOf, blocksHeld, Holds, totalsFrom, rangeOf}
+use Rattle.shortlist.specs.Private.{scaleSize, heldSize, heldOf, Holds, totalsFrom, rangeOf}
 use Rattle.shortlist.specs.declared.scales.Range.{Range}
 
 pub length-held : (held : List ℕ) (r : ℕ) → length held ≡ heldSize → r < 16 → length (heldOf held r) ≡ scaleSize

@@ -7,7 +7,7 @@ use mathlib.Core.Bool.{Bool}
 use mathlib.Core.List.{List, [], _∷_}
 use native.Mathlib.Omega.{arith}
 use native.Mathlib.Decide.{decLe}
-use lib.Dec.{T, T-not, eqb, eqb→eq, eqb-refl}
+use lib.Dec.{T, T-not, eqb, eqb-refl}
 use lib.ListN.{length, getD, set, replicate, length-set}
 use Rattle.table.proofs.Placed.{zeros-at}
 use Rattle.table.proofs.Test.{by-test}

@@ -1,8 +1,7 @@
 -- At least as good is an order, since every table has a cheapest cost at all prices; better is its strict part, and is computed.
-use Prim.Native.Nat.{ℕ}
-use mathlib.Core.Path.{_≡_, sym, _∙_}
+use mathlib.Core.Path.{_≡_, sym}
 use mathlib.Core.Logic.{_↔_}
-use mathlib.Core.Bool.{Bool, true, false, not, _&&_}
+use mathlib.Core.Bool.{not}
 use mathlib.Core.List.{List, [], _∷_}
 use native.Mathlib.Omega.{arith}
 use lib.Dec.{T, T-not, not-T}
@@ -10,7 +9,7 @@ use Rattle.table.specs.Table.{Table, Every, Counted, survivorsIn}
 use Rattle.cutoff.specs.Cutoff.{AtLeastAsGood}
 use Rattle.cutoff.specs.Verdict.{neverDearer}
 use Rattle.cutoff.proofs.Cost.{cheapest-is}
-use Rattle.cutoff.proofs.Settled.{never-dearer}
+use Rattle.cutoff.proofs.Settled.{both, never-dearer}
 use Rattle.shortlist.specs.Shortlist.{Better, better, unbeaten}
 
 good-trans : {t₁ t₂ t₃ : Table} → AtLeastAsGood t₁ t₂ → AtLeastAsGood t₂ t₃ → AtLeastAsGood t₁ t₃
@@ -29,10 +28,6 @@ pub better-self : {t : Table} → Better t t → ⊥
 better-self p = p .1 (p .0)
 
 -- The test.
-
-both : (x y : Bool) → T (x && y) ↔ (T x × T y)
-both true y = (λ h. (tt, h), λ h. h .1)
-both false y = (λ h. absurd h, λ h. h .0)
 
 pub better-computed : (t₁ t₂ : Table) → Every Counted t₁ → Every Counted t₂ → survivorsIn t₁ ≡ survivorsIn t₂ → T (better t₁ t₂) ↔ Better t₁ t₂
 better-computed t₁ t₂ counted₁ counted₂ same =

@@ -1,13 +1,13 @@
 -- A table that is read without a fault is sound, and stands in the place that it was read into.
 use Prim.Native.Nat.{ℕ, _+_, _≤_}
-use mathlib.Core.Path.{_≡_, sym, ap, _∙_}
+use mathlib.Core.Path.{_≡_, ap, _∙_}
 use mathlib.Core.List.{List}
 use native.Mathlib.Omega.{arith}
 use lib.ListN.{length}
 use Rattle.table.specs.declared.Place.{Place}
 use Rattle.table.specs.Table.{Table, Sound}
 use Rattle.table.specs.Place.{tableOf, placeOf, holds}
-use Rattle.table.specs.Words.{wordsOf, placeIn, tableIn, HoldsTable}
+use Rattle.table.specs.Words.{wordsOf, tableIn, HoldsTable}
 use Rattle.table.proofs.Placed.{table-placed, placed-loaded}
 use Rattle.table.proofs.Words.{long-place, place-back, is-place, holds-table}
 use Rattle.book.specs.Layout.{gradesAt, kindAt}

@@ -1,14 +1,13 @@
 -- The scales of a book's raters, read one after the other.
-use Prim.Native.Nat.{ℕ, suc, _+_, _-_, _*_, _≤_, _<_}
-use mathlib.Core.Path.{_≡_, refl, sym, ap, _∙_}
+use Prim.Native.Nat.{ℕ, suc, _-_, _*_, _≤_, _<_}
+use mathlib.Core.Path.{_≡_, refl, sym, _∙_}
 use mathlib.Core.List.{List, _++_}
 use native.Mathlib.Decide.{decLe}
-use native.Mathlib.Numerals.{add-one}
 use native.Mathlib.Omega.{arith}
 use lib.ListN.{length, take}
 use Rattle.book.specs.Checks.{firstFault}
-use Rattle.book.specs.Layout.{raters, startOf}
-use Rattle.book.specs.Rows.{tableFrom, tableOfRater, tablesIn, tableFault}
+use Rattle.book.specs.Layout.{raters}
+use Rattle.book.specs.Rows.{tableOfRater, tablesIn, tableFault}
 use Rattle.book.specs.Reading.{allTables, tableFaults}
 use Rattle.book.proofs.Checks.{first-none, first-some}
 use Rattle.book.proofs.Whole.{Laid}

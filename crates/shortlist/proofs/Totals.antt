@@ -1,18 +1,18 @@
 -- The checks of the totals go by the range of the counts: some table has none exactly if the least is 0, and any two have as many exactly if the
 -- least is the most.
-use Prim.Native.Nat.{ℕ, zero, suc, _≤_, _<_, min, max}
-use mathlib.Core.Path.{_≡_, refl, sym, ap, _∙_}
+use Prim.Native.Nat.{ℕ, zero, suc, _≤_, min, max}
+use mathlib.Core.Path.{_≡_, refl, sym, _∙_}
 use mathlib.Core.Bool.{not}
 use mathlib.Core.List.{List, [], _∷_, _++_, map}
 use native.Mathlib.Omega.{arith}
 use native.Mathlib.Decide.{decLe, ℕ-discrete}
-use borrow.Author.Tests.{eqb-true, eq-eqb, ne-eqb, le-leb, lt-leb}
+use borrow.Author.Tests.{eq-eqb, ne-eqb, le-leb, lt-leb}
 use lib.Dec.{T, T-not, eqb, eqb→eq, eqb-refl}
 use lib.ListN.{length}
 use Rattle.table.specs.Table.{Table, Every, defaultsIn, survivorsIn}
 use Rattle.table.specs.Counts.{largest}
 use Rattle.table.proofs.Test.{by-test}
-use Rattle.book.specs.Checks.{Check, at-most, equal, fault, firstFault}
+use Rattle.book.specs.Checks.{Check, fault}
 use Rattle.book.proofs.Checks.{stop, go}
 use Rattle.shortlist.specs.declared.scales.Range.{Range}
 use Rattle.shortlist.specs.Checks.{someChecks, equalChecks, sameChecks, totalsFault}

@@ -1,5 +1,5 @@
 -- `read_book` meets its contract: each way out has the number of the check that ends there.
-use mathlib.Core.Path.{_≡_, refl, sym, _∙_}
+use mathlib.Core.Path.{_≡_, sym, _∙_}
 use borrow.Author.Needs.{needs}
 use denote.Ref.{now}
 use Rattle.book.specs.Layout.{layoutFault}

@@ -1,12 +1,11 @@
 -- `blocks_at` meets its contract.
-use Prim.Native.Nat.{ℕ, _-_, _*_, _≤_}
-use mathlib.Core.Path.{_≡_, sym, ap, _∙_}
-use mathlib.Core.List.{List}
+use Prim.Native.Nat.{ℕ, _-_, _≤_}
+use mathlib.Core.Path.{_≡_, ap, _∙_}
 use native.Mathlib.Omega.{arith}
 use borrow.Author.Needs.{needs}
 use denote.Ref.{now}
 use lib.ListN.{length, getD, take, drop}
-use Rattle.shortlist.specs.Private.{heldOf, blocksHeld}
+use Rattle.shortlist.specs.Private.{blocksHeld}
 use Rattle.shortlist.proofs.Held.{length-held}
 use Rattle.shortlist.proofs.scales.blocks_at.Statement.{statement}
 use Rattle.shortlist.proofs.scales.blocks_at.Tie as tie

@@ -1,12 +1,11 @@
 -- `range_of` meets its contract. The invariant: the range is that of the raters from `rater` on.
-use Prim.Native.Nat.{ℕ, suc, _+_, _-_, _*_, _≤_, _<_}
-use mathlib.Core.Path.{_≡_, refl, ap, _∙_}
+use Prim.Native.Nat.{_-_, _≤_, _<_}
+use mathlib.Core.Path.{_≡_}
 use native.Mathlib.Omega.{arith}
 use borrow.Author.Needs.{needs}
 use denote.Ref.{now}
-use lib.ListN.{length, getD}
-use Rattle.shortlist.specs.Private.{heldOf, totalsFrom, rangeOf}
-use Rattle.shortlist.specs.declared.scales.Range.{Range}
+use lib.ListN.{length}
+use Rattle.shortlist.specs.Private.{totalsFrom, rangeOf}
 use Rattle.shortlist.proofs.Held.{length-held, totals-end, range-next}
 use Rattle.shortlist.proofs.scales.range_of.Statement.{statement}
 use Rattle.shortlist.proofs.scales.range_of.Tie as tie
