@@ -1,4 +1,4 @@
--- A book read as a whole: where its tables stand, and that it has no fault exactly if each of its raters is read without one.
+-- A book read as a whole: where its tables stand, that it has no fault exactly if each of its raters is read without one, and which is the first.
 use Prim.Native.Nat.{ℕ, zero, suc, _+_, _*_, _≤_, _<_}
 use mathlib.Core.Path.{_≡_, refl, sym, ap, _∙_}
 use mathlib.Core.Logic.{_↔_}
@@ -10,7 +10,7 @@ use Rattle.table.specs.Table.{Every, Sound}
 use Rattle.book.specs.Layout.{raters, headChecks, layoutFault}
 use Rattle.book.specs.Rows.{tableOfRater, tablesIn, tableFault}
 use Rattle.book.specs.Reading.{readFault, allTables, tableFaults, bookFault}
-use Rattle.book.proofs.Checks.{held, held-first, go}
+use Rattle.book.proofs.Checks.{held, held-first, first-none, first-some, go}
 use Rattle.book.proofs.Stands.{Stands, stands}
 use Rattle.book.proofs.Accept.{sound-read, rows-decide}
 
@@ -63,6 +63,33 @@ whole-read b = (
   λ e. let f = held-first _ _ e in
       (f .0, λ j from to. sym (rows-decide b j (f .0) from to) ∙ faults-at b 1 (raters b) (f .1) j from (omega arith)),
   λ h. sym (go (h .0) (at-faults b 1 (raters b) (λ j from to. rows-decide b j (h .0) from (omega arith) ∙ h .1 j from (omega arith)))),
+)
+
+-- The first fault is that of the layout, or that of the first rater with one.
+
+table-told : (b : List ℕ) (i k j : ℕ) → i ≤ j → j < i + k → ((m : ℕ) → i ≤ m → m < j → tableFault (tableOfRater b m) ≡ 0)
+    → (tableFault (tableOfRater b j) ≡ 0 → ⊥) → tableFaults (tablesIn b i k) ≡ tableFault (tableOfRater b j)
+unfolding tablesIn tableFaults
+table-told b i zero j from to earlier some = absurd (omega arith)
+table-told b i (suc k) j from to earlier some =
+    elim (decLe j i) [
+      | yes le ↦ let e : i ≡ j = omega arith in rw e (first-some _ _ some)
+      | no gt ↦ first-none _ _ (earlier i (omega arith) (omega arith))
+          ∙ table-told b (suc i) k j (omega arith) (omega arith) (λ m p q. earlier m (omega arith) q) some
+    ]
+
+pub first-told : (b : List ℕ)
+    → ((layoutFault b ≡ 0 → ⊥) → bookFault b ≡ layoutFault b)
+    × ((j : ℕ) → layoutFault b ≡ 0 → 1 ≤ j → j ≤ raters b
+    → ((i : ℕ) → 1 ≤ i → i < j → readFault b i ≡ 0) → (readFault b j ≡ 0 → ⊥) → bookFault b ≡ readFault b j)
+unfolding bookFault
+first-told b = (
+  λ k. first-some _ _ k,
+  λ j e from to earlier some.
+      let same = rows-decide b j e from to in
+      first-none _ _ e
+      ∙ table-told b 1 (raters b) j from (omega arith) (λ m p q. rows-decide b m e p (omega arith) ∙ earlier m p q) (λ z. some (sym same ∙ z))
+      ∙ same,
 )
 
 pub tables-sound : (b : List ℕ) → bookFault b ≡ 0 → Every Sound (allTables b)

@@ -86,6 +86,15 @@ abbrev pub WholeBooksAreRead : Type 0
 WholeBooksAreRead =
     (b : List ℕ) → (bookFault b ≡ 0) ↔ ((layoutFault b ≡ 0) × ((j : ℕ) → 1 ≤ j → j ≤ raters b → readFault b j ≡ 0))
 
+-- R-7: "The layout of the whole book is checked first as in load .. Then come the row checks, 9 and 11 of each rater in book order": the fault of the
+-- layout, or else what a load of the first rater that has a fault is refused with.
+abbrev pub FirstFaultIsTold : Type 0
+FirstFaultIsTold =
+    (b : List ℕ)
+    → ((layoutFault b ≡ 0 → ⊥) → bookFault b ≡ layoutFault b)
+    × ((j : ℕ) → layoutFault b ≡ 0 → 1 ≤ j → j ≤ raters b
+    → ((i : ℕ) → 1 ≤ i → i < j → readFault b i ≡ 0) → (readFault b j ≡ 0 → ⊥) → bookFault b ≡ readFault b j)
+
 -- A book that is cut wrong is refused with the number of the cut, whichever of its raters is wanted.
 abbrev pub WrongCutsAreTold : Type 0
 WrongCutsAreTold = (b : List ℕ) (j n : ℕ) → fault (headChecks b) ≡ 0 → 1 ≤ j → j ≤ raters b → WrongCut b n → readFault b j ≡ n
@@ -106,5 +115,6 @@ pub record Claims : Type 0 where
   pub written-book-reads-back : WrittenBookReadsBack
   pub read-book-writes-back : ReadBookWritesBack
   pub whole-books-are-read : WholeBooksAreRead
+  pub first-fault-is-told : FirstFaultIsTold
   pub wrong-cuts-are-told : WrongCutsAreTold
   pub wrong-cuts-are-meant : WrongCutsAreMeant

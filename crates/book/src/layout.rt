@@ -25,7 +25,7 @@ pub const TABLE_HEAD: usize = 4;
 pub const ROW: usize = 12;
 
 // The most raters of a book.
-const RATERS: usize = 16;
+pub const RATERS: usize = 16;
 
 // The number of raters.
 pub fn raters_of(b: &[u8]) -> usize

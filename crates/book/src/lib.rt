@@ -6,6 +6,7 @@ mod layout;
 mod reader;
 mod writer;
 
+pub use layout::RATERS;
 pub use layout::head_fault;
 pub use layout::raters_of;
 pub use layout::start_of;

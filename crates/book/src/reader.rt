@@ -13,10 +13,10 @@ ghost use Rattle.book.specs.Private.{gradeOf, cappedGrade, sumChecks, wo
 use crate::Row;
 use crate::bytes::byte_at;
 use crate::bytes::four_at;
-use crate::bytes::two_at;
 use crate::layout::ROW;
 use crate::layout::TABLE_HEAD;
 use crate::layout::head_fault;
+use crate::layout::raters_of;
 use crate::layout::start_of;
 use crate::layout::tables_fault;
 use refusals::FALLING_RATE;
@@ -161,7 +161,7 @@ pub fn read(book: &[u8], rater: u32, place: &mut [u32]) -> u32
     if j < 1 {
         return NO_RATER;
     }
-    if two_at(book, 0) < j {
+    if raters_of(book) < j {
         return NO_RATER;
     }
     let tables = tables_fault(book);

@@ -231,7 +231,9 @@ ShortlistIsRight =
 abbrev pub ShortlistNeedsNoDesk : Type 0
 ShortlistNeedsNoDesk =
     (d e : Desk) (b out : List ℕ)
-    → (numberOf d (shortlist b out) ≡ numberOf e (shortlist b out)) × (lentAfter d (shortlist b out) ≡ lentAfter e (shortlist b out))
+    → (numberOf d (shortlist b out) ≡ numberOf e (shortlist b out))
+    × (lentSize d (shortlist b out) ≡ lentSize e (shortlist b out))
+    × (lentAfter d (shortlist b out) ≡ lentAfter e (shortlist b out))
 
 -- Any two raters of a book whose shortlist is accepted are compared, once they are loaded: what compare answers settles which of them is better.
 abbrev pub ShortlistedRatersAreCompared : Type 0

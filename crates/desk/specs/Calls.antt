@@ -12,10 +12,10 @@ use Rattle.cutoff.specs.Verdict.{IsVerdict}
 use Rattle.cutoff.specs.declared.Verdict.{Verdict}
 use Rattle.shares.specs.Verdict.{IsVerdictByShares}
 use Rattle.spread.specs.Spread.{IsSpread}
+use Rattle.spread.specs.declared.Spread.{Spread}
 use Rattle.shortlist.specs.Shortlist.{listed}
 use Rattle.shortlist.specs.Checks as listing
 use Rattle.shortlist.specs.Checks.{shortlistFault}
-use Rattle.spread.specs.declared.Spread.{Spread}
 use Rattle.calls.specs.Answers.{Answer, leaves, Limited}
 use Rattle.calls.specs.Calls.{Question, spread, questionFault, Filling, fillSize, filledWith, fillFault, Change, changedTo, changeFault, compareFault}
 use Rattle.calls.specs.Shares.{sharesFault}

@@ -94,7 +94,7 @@ fn pool(desk: Desk, place: u32, length: usize) -> bool
     true
 }
 
-// The book is read into the lent buffer first, as for load.
+// `book` is filled from the input first, as for load.
 fn shortlist_into(book: &mut [u8], lent: &mut [u32]) -> bool {
     if io::read_full(STDIN_FILENO, book) < book.len() {
         return false;

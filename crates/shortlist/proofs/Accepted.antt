@@ -1,4 +1,4 @@
--- A book whose shortlist is not refused: its raters can be compared, any two of them.
+-- A book whose shortlist is not refused: every table is sound, has defaults and survivors, and the D and S of the first.
 use Prim.Native.Nat.{ℕ, suc, _≤_}
 use mathlib.Core.Path.{_≡_, refl, sym}
 use mathlib.Core.List.{List, [], _∷_, _++_}

@@ -8,7 +8,7 @@ use lib.Dec.{T, eqb, eqb→eq, eqb-refl}
 use lib.ListN.{length, getD, take, length-take}
 use lib.Seq.{getD-take}
 use Rattle.table.specs.Table.{Table, Sound, defaultsIn, survivorsIn}
-use Rattle.table.proofs.Every.{every-map}
+use Rattle.table.proofs.Every.{every-map, every-at, at-every}
 use Rattle.table.proofs.Suffix.{sound-small, few-counts}
 use Rattle.pooling.specs.Pool.{pooledScale}
 use Rattle.pooling.proofs.Joined.{pooled-totals}
@@ -22,12 +22,12 @@ use Rattle.cutoff.proofs.Judged.{held-scale, sweepable}
 use Rattle.shortlist.specs.Shortlist.{better, unbeaten, listed}
 use Rattle.shortlist.specs.Checks.{totalsFault}
 use Rattle.shortlist.specs.Private.{heldSize, heldOf, blocksHeld, Holds, HoldsAll, totalsFrom, heldTotalsFault, scaleAt, Searchable, beats, allCompared, unmarked}
-use Rattle.shortlist.proofs.Numbers.{every-at, at-every, numbers-same}
+use Rattle.shortlist.proofs.Numbers.{numbers-same}
 use Rattle.shortlist.proofs.Order.{unbeaten-every}
 use Rattle.shortlist.proofs.Top.{StrictOrder}
 use Rattle.shortlist.proofs.Listed.{Totalled, order}
 use Rattle.shortlist.proofs.Marked.{marks-long, unmarked-unbeaten}
-use Rattle.shortlist.proofs.Pooled.{same-test, better-pooled}
+use Rattle.shortlist.proofs.Pooled.{tests-agree, better-pooled}
 use Rattle.shortlist.proofs.Totals.{totals-fault}
 use Rattle.shortlist.proofs.Accepted.{Accepted}
 
@@ -110,7 +110,7 @@ module _ (b held : List ℕ) (whole : bookFault b ≡ 0) (holds : HoldsAll b hel
     marks-tell k h =
         let told = unmarked-unbeaten (raters b) (beats held) (book-laid .few) beats-order k h in
         let every = unbeaten-every (allTables b) (table k) in
-        same-test _ _
+        tests-agree _ _
         (λ z. every .1
         (at-every (λ other. T (better other (table k)) → ⊥) [] (allTables b)
         (λ j l. let s : j < raters b = omega (arith, count) in rw (← beats-is j k s h) (told .0 (eqb→eq _ 0 z) j s))))

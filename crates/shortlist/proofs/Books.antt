@@ -7,6 +7,7 @@ use native.Mathlib.Omega.{arith}
 use borrow.Author.Tests.{le-leb}
 use lib.ListN.{length}
 use Rattle.table.specs.Table.{Table, Every, defaultsIn, survivorsIn}
+use Rattle.table.proofs.Every.{every-at, at-every}
 use Rattle.book.specs.Checks.{at-most, fault}
 use Rattle.book.specs.Layout.{raters, layoutFault}
 use Rattle.book.specs.Rows.{tableOfRater}
@@ -17,7 +18,7 @@ use Rattle.cutoff.specs.Cutoff.{AtLeastAsGood}
 use Rattle.shortlist.specs.Shortlist.{Better, unbeaten, listed}
 use Rattle.shortlist.specs.Checks.{someChecks, shortlistFault}
 use Rattle.shortlist.specs.Claims.{Comparable, Rater, Listed, InBookOrder}
-use Rattle.shortlist.proofs.Numbers.{every-at, at-every, numbers-le, numbers-rise}
+use Rattle.shortlist.proofs.Numbers.{numbers-le, numbers-rise}
 use Rattle.shortlist.proofs.Listed.{Totalled, tableNo, listed-unbeaten, equals-together, unlisted-beaten, never-empty}
 use Rattle.shortlist.proofs.Totals.{level-same}
 use Rattle.shortlist.proofs.Accepted.{Accepted, accepted}

@@ -7,10 +7,11 @@ use native.Mathlib.Omega.{arith}
 use lib.Dec.{T}
 use lib.ListN.{length, getD}
 use Rattle.table.specs.Table.{Table, Every, Counted, defaultsIn, survivorsIn}
+use Rattle.table.proofs.Every.{every-at, at-every}
 use Rattle.cutoff.specs.Cutoff.{AtLeastAsGood}
 use Rattle.shortlist.specs.Shortlist.{Better, better, unbeaten, listed}
 use Rattle.shortlist.specs.Claims.{Has}
-use Rattle.shortlist.proofs.Numbers.{every-at, at-every, has-numbers}
+use Rattle.shortlist.proofs.Numbers.{has-numbers}
 use Rattle.shortlist.proofs.Order.{better-good, better-trans, better-self, better-computed, unbeaten-every}
 use Rattle.shortlist.proofs.Top.{StrictOrder, Top, top-of}
 
@@ -24,10 +25,11 @@ pub record Totalled (d s : ℕ) (t : Table) : Type 0 where
   pub defaults : defaultsIn t ≡ d
   pub survivors : survivorsIn t ≡ s
 
--- i is the number of one of some tables, and this one it is
+-- i is the number of one of some tables
 abbrev Rater : List Table → ℕ → Type 0
 Rater ts i = (1 ≤ i) × (i ≤ length ts)
 
+-- the table of that number
 abbrev pub tableNo : List Table → ℕ → Table
 tableNo ts i = getD ts (i - 1) []
 

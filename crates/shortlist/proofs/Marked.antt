@@ -9,6 +9,7 @@ use native.Mathlib.Omega.{arith}
 use native.Mathlib.Decide.{decLe}
 use lib.Dec.{T, T-not, eqb, eqb-refl}
 use lib.ListN.{length, getD, set, replicate, length-set}
+use lib.Seq.{getD-set-same}
 use Rattle.table.proofs.Placed.{zeros-at}
 use Rattle.table.proofs.Test.{by-test}
 use Rattle.shortlist.specs.Private.{compared, allCompared}
@@ -22,11 +23,6 @@ unset-before (x ∷ l) zero zero h = absurd (omega arith)
 unset-before (x ∷ l) zero (suc a) h = h
 unset-before (x ∷ l) (suc k) zero h = h
 unset-before (x ∷ l) (suc k) (suc a) h = unset-before l k a h
-
-is-set : (l : List ℕ) (k : ℕ) → k < length l → getD (set l k 1) k 0 ≡ 1
-is-set [] k h = absurd (omega arith)
-is-set (x ∷ l) zero h = refl
-is-set (x ∷ l) (suc k) h = is-set l k (omega arith)
 
 set-before : (l : List ℕ) (k a : ℕ) → 1 ≤ getD (set l k 1) a 0 → (a ≡ k) ⊎ (1 ≤ getD l a 0)
 set-before [] k a h = inr h
@@ -91,7 +87,7 @@ module _ (n : ℕ) (beats : ℕ → ℕ → Bool) (few : n ≤ 16) where
     j-beaten i marks c by =
         let m = mark-set j marks j by (c .before) in
         all-before (set marks j 1)
-        (record { before = m; settled = λ a l p q. absurd (omega (arith, is-set marks j (omega (arith, c .before .long, few)))) })
+        (record { before = m; settled = λ a l p q. absurd (omega (arith, getD-set-same marks j 1 0 (omega (arith, c .before .long, few)))) })
 
     -- i is beaten.
     i-beaten : (i : ℕ) (marks : List ℕ) → i < j → Comparing j i marks → Beaten i → Comparing j (suc i) (set marks i 1)
@@ -101,7 +97,7 @@ module _ (n : ℕ) (beats : ℕ → ℕ → Bool) (few : n ≤ 16) where
           before = mark-set j marks i by (c .before);
           settled = λ a k p q. c .settled a k (unset-before marks i a p) (unset-before marks i j q);
         })
-        (λ p q. absurd (omega (arith, is-set marks i (omega (arith, c .before .long, few)))))
+        (λ p q. absurd (omega (arith, getD-set-same marks i 1 0 (omega (arith, c .before .long, few)))))
 
     compared-marks : (k i : ℕ) (marks : List ℕ) → i + k ≡ j → Comparing j i marks → Marks (suc j) (compared beats j k i marks)
     unfolding compared

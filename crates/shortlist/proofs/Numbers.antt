@@ -1,4 +1,4 @@
--- The numbers of the elements of a list that pass a test, and what holds of every element, by its place.
+-- The numbers of the elements of a list that pass a test.
 use Prim.Native.Nat.{ℕ, zero, suc, _+_, _≤_, _<_}
 use mathlib.Core.Path.{_≡_, refl}
 use mathlib.Core.Logic.{_↔_, inl, inr, ⊎-elim}
@@ -7,19 +7,8 @@ use mathlib.Core.List.{List, [], _∷_}
 use native.Mathlib.Omega.{arith}
 use lib.Dec.{T}
 use lib.ListN.{length, getD}
-use Rattle.table.specs.Table.{Every}
 use Rattle.shortlist.specs.Shortlist.{numbersOf}
 use Rattle.shortlist.specs.Claims.{Has, InBookOrder}
-
-module _ {A : Type 0} (P : A → Type 0) (none : A) where
-  pub every-at : (l : List A) → Every P l → (k : ℕ) → k < length l → P (getD l k none)
-  every-at [] h k inside = absurd (omega arith)
-  every-at (x ∷ l) h zero inside = h .0
-  every-at (x ∷ l) h (suc k) inside = every-at l (h .1) k (omega arith)
-
-  pub at-every : (l : List A) → ((k : ℕ) → k < length l → P (getD l k none)) → Every P l
-  at-every [] h = tt
-  at-every (x ∷ l) h = (h 0 (omega arith), at-every l (λ k inside. h (suc k) (omega arith)))
 
 module _ {A : Type 0} (test : A → Bool) (none : A) where
   -- x is i more than the place of an element that passes

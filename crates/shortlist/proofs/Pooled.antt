@@ -13,11 +13,11 @@ use Rattle.cutoff.proofs.Settled.{never-dearer}
 use Rattle.shortlist.specs.Shortlist.{better}
 
 -- Tests that hold together are equal.
-pub same-test : (x y : Bool) → (T x → T y) → (T y → T x) → x ≡ y
-same-test true true f g = refl
-same-test true false f g = absurd (f tt)
-same-test false true f g = absurd (g tt)
-same-test false false f g = refl
+pub tests-agree : (x y : Bool) → (T x → T y) → (T y → T x) → x ≡ y
+tests-agree true true f g = refl
+tests-agree true false f g = absurd (f tt)
+tests-agree false true f g = absurd (g tt)
+tests-agree false false f g = refl
 
 module _ (t₁ t₂ : Table) (counted₁ : Every Counted t₁) (counted₂ : Every Counted t₂) where
   good-pooled : AtLeastAsGood (pooledScale t₁) (pooledScale t₂) ↔ AtLeastAsGood t₁ t₂
@@ -31,7 +31,7 @@ module _ (t₁ t₂ : Table) (counted₁ : Every Counted t₁) (counted₂ : Eve
       let s = pool-alike t₁ counted₁ .same-survivors ∙ same ∙ sym (pool-alike t₂ counted₂ .same-survivors) in
       let pooled = never-dearer (pooledScale t₁) (pooledScale t₂) (scale-counted t₁ counted₁) s in
       let whole = never-dearer t₁ t₂ counted₁ same in
-      same-test _ _ (λ h. whole .1 (good-pooled .0 (pooled .0 h))) (λ h. pooled .1 (good-pooled .1 (whole .0 h)))
+      tests-agree _ _ (λ h. whole .1 (good-pooled .0 (pooled .0 h))) (λ h. pooled .1 (good-pooled .1 (whole .0 h)))
 
 pub better-pooled : (t₁ t₂ : Table) → Every Counted t₁ → Every Counted t₂ → survivorsIn t₁ ≡ survivorsIn t₂
     → better (pooledScale t₁) (pooledScale t₂) ≡ better t₁ t₂

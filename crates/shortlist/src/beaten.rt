@@ -6,8 +6,8 @@ ghost use lib.ListN.{length, drop};
 ghost use Rattle.cutoff.specs.Verdict.{neverDearer};
 ghost use Rattle.shortlist.specs.Private.{scaleAt, Searchable, beats, winnerOf, compared, allCompared, unmarked};
 use crate::scales::HELD;
-use crate::scales::RATERS;
 use crate::scales::blocks_at;
+use book::RATERS;
 use cutoff::never_dearer;
 
 // Which of two raters is better: at least as good, and not the reverse.

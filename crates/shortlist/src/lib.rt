@@ -1,5 +1,4 @@
 // The shortlist of a book (document 02's R-7): the raters for which no other rater of the book is better.
-ghost use Prim.Native.Nat.{_≤_};
 ghost use mathlib.Core.Path.{_≡_};
 ghost use lib.ListN.{length};
 ghost use Rattle.book.specs.Reading.{bookFault};

@@ -1,12 +1,12 @@
 // The pooled scales of all raters of a book, each read and pooled once.
-ghost use Prim.Native.Nat.{_+_, _*_, _≤_, _<_, min, max};
+ghost use Prim.Native.Nat.{_≤_, _<_, min, max};
 ghost use mathlib.Core.Path.{_≡_};
 ghost use lib.ListN.{length, getD};
 ghost use Rattle.table.specs.Words.{tableIn, HoldsTable};
-ghost use Rattle.book.specs.Layout.{raters, gradesAt, endOf, layoutFault};
+ghost use Rattle.book.specs.Layout.{gradesAt, endOf, layoutFault};
 ghost use Rattle.book.specs.Rows.{tableFrom, tableFault};
 ghost use Rattle.book.specs.Reading.{allTables, tableFaults};
-ghost use Rattle.shortlist.specs.Private.{scaleSize, heldSize, heldOf, blocksHeld, Holds, HoldsAll, totalsFrom, rangeOf, rangesFault, heldTotalsFault};
+ghost use Rattle.shortlist.specs.Private.{scaleSize, heldSize, heldOf, blocksHeld, Holds, HoldsAll, totalsFrom, rangeOf, heldTotalsFault};
 use book::raters_of;
 use book::read_table;
 use book::start_of;
@@ -18,6 +18,7 @@ use refusals::UNEQUAL_TOTALS;
 use table::PLACE;
 use table::put_numbers;
 use table::totals_of;
+use table::wide;
 
 // The numbers that are held of a rater: the words of its blocks, which end at BLOCKS, where they start, D and S.
 const START: usize = 120;
@@ -28,17 +29,8 @@ const SURVIVORS: usize = 122;
 
 const SCALE: usize = 123;
 
-// The most raters of a book, and the numbers of as many.
-pub const RATERS: usize = 16;
-
+// Those of as many raters as a book can have.
 pub const HELD: usize = 1_968;
-
-// A count as an index.
-fn wide(n: u32) -> usize
-    ensures { λ r. ⌜ r ≡ n ⌝ }
-{
-    n as usize
-}
 
 // The numbers of a rater, the first being 0.
 fn scale_of(held: &[u32], rater: usize) -> &[u32]

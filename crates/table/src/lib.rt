@@ -105,7 +105,7 @@ pub const LOADED: usize = 121;
 pub const PLACE: usize = 122;
 
 // A count as an index.
-fn wide(n: u32) -> usize
+pub fn wide(n: u32) -> usize
     ensures { λ r. ⌜ r ≡ n ⌝ }
 {
     n as usize

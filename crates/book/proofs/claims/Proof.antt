@@ -5,7 +5,7 @@ use Rattle.book.proofs.Fall.{fall-told, fall-meant}
 use Rattle.book.proofs.Columns.{first-column}
 use Rattle.book.proofs.RoundTrip.{round-trip}
 use Rattle.book.proofs.Again.{written-again}
-use Rattle.book.proofs.Whole.{whole-read}
+use Rattle.book.proofs.Whole.{whole-read, first-told}
 use Rattle.book.proofs.WrongCut.{cut-told, cut-meant}
 use Rattle.book.proofs.claims.Statement.{statement}
 use Rattle.book.proofs.claims.Tie as tie
@@ -22,6 +22,7 @@ returns c = record {
   written-book-reads-back = round-trip;
   read-book-writes-back = written-again;
   whole-books-are-read = whole-read;
+  first-fault-is-told = first-told;
   wrong-cuts-are-told = cut-told;
   wrong-cuts-are-meant = cut-meant;
 }

@@ -32,9 +32,9 @@ returns-2 : tie.Need-returns-2
 unfolding readFault raterChecks
 returns-2 c = (go (headed (c .before)) (stop _ (found (over (omega arith))) (λ z. omega arith)), refl)
 
-two-at-requires : tie.Need-two-at-requires
+raters-of-requires : tie.Need-raters-of-requires
 unfolding headChecks
-two-at-requires c κs = let h = held _ (headed (c .before)) in omega arith
+raters-of-requires c κs = let h = held _ (headed (c .before)) in omega arith
 
 returns-3 : tie.Need-returns-3
 unfolding readFault raterChecks
@@ -79,7 +79,7 @@ read-spec =
     (λ c κs. search needs)
     returns
     returns-2
-    two-at-requires
+    raters-of-requires
     returns-3
     (λ c κs. search needs)
     returns-4
