@@ -1,6 +1,8 @@
 -- Joining blocks: a goal about `front` by its two outcomes, the rates that it makes rise, and what it keeps of every block.
 use Prim.Native.Nat.{ℕ, zero, suc, _*_, _≤_}
+use mathlib.Core.Path.{_≡_}
 use mathlib.Core.List.{List, [], _∷_}
+use borrow.Author.Tests.{lt-ltb}
 use lib.Dec.{ltb→lt, nltb→le}
 use lib.ListN.{drop}
 use Rattle.table.specs.Table.{Table, Every}
@@ -16,6 +18,11 @@ pub front-cases : (P : List Block → Type 0) (b c : Block) (bs : List Block)
     → (RateBelow b c → P (b ∷ c ∷ bs)) → (AtMostRate c b → P (front (join b c) bs)) → P (front b (c ∷ bs))
 unfolding front
 front-cases P b c bs stays joins = by-test P (rateBelow b c) (λ x. stays (ltb→lt _ _ x)) (λ x. joins (nltb→le _ _ x))
+
+-- It stays where its rate is below.
+pub front-below : (b c : Block) (bs : List Block) → RateBelow b c → front b (c ∷ bs) ≡ b ∷ c ∷ bs
+unfolding front
+front-below b c bs h = rw (lt-ltb (b .defaults * c .obligors) (c .defaults * b .obligors) h)
 
 -- The rates rise.
 
