@@ -227,7 +227,7 @@ ShortlistIsRight =
     (d : Desk) (b out : List ℕ) → numberOf d (shortlist b out) ≡ 0
     → IsShortlist b (take (lentSize d (shortlist b out)) (lentAfter d (shortlist b out)))
 
--- "The desk plays no part."
+-- The shortlist is of a book and a buffer alone: every desk answers it alike.
 abbrev pub ShortlistNeedsNoDesk : Type 0
 ShortlistNeedsNoDesk =
     (d e : Desk) (b out : List ℕ)

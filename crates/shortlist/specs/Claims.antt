@@ -19,7 +19,7 @@ abbrev pub BetterIsComputed : Type 0
 BetterIsComputed =
     (t₁ t₂ : Table) → Every Counted t₁ → Every Counted t₂ → survivorsIn t₁ ≡ survivorsIn t₂ → T (better t₁ t₂) ↔ Better t₁ t₂
 
--- The other claims are of a book that is not refused, with a buffer of any length.
+-- The other claims are of books, most of them of one that is not refused with a buffer of n numbers.
 
 -- Its raters could all be loaded, and any two be compared: D and S are theirs all.
 pub record Comparable (b : List ℕ) : Type 0 where
