@@ -22,11 +22,11 @@ class Misfit(AssertionError):
 
 
 def shapes_of(page: str) -> dict[str, dict[str, Key]]:
-    """Headings of the third level with their tables."""
+    """Headings of the third level with their lists: a key, its type, and behind a semicolon what it is."""
     found: dict[str, dict[str, Key]] = {}
     for section in page.partition('\n## As JSON\n')[2].split('\n### ')[1:]:
         heading, _, body = section.partition('\n')
-        keys = re.findall(r'^\| `(\w+)` \| ([^|]+) \|([^|]*)\|$', body, re.M)
+        keys = re.findall(r'^- `(\w+)`: ([^;\n]+)(?:; (.*))?$', body, re.M)
         found[heading.strip()] = {name: Key(kind.strip(), tuple(re.findall('`(\\w+)`', what))) for name, kind, what in keys}
     return found
 
