@@ -1,5 +1,5 @@
 """Runs every command line of README.md, docs/ and examples/README.md in a copy of the repository, and holds what is shown to what it
-prints.
+prints; and holds README's lists of crates and of definitions to those that are there.
 
 In these pages a line of an indented block that begins with a dollar sign is a command line; the lines behind it, up to the next one, to
 Python or to the block's end, are what it prints on standard output; where they say that something is refused, its status is 1, and what
@@ -11,6 +11,7 @@ from __future__ import annotations
 
 from typing import Iterator
 import doctest
+import glob
 import itertools
 import os
 import re
@@ -24,13 +25,15 @@ from common import TOP, copy_repository, read  # noqa: E402
 
 PAGES = ['README.md', 'examples/README.md',
          *sorted(f'docs/{name}' for name in os.listdir(os.path.join(TOP, 'docs')) if name.endswith('.md'))]
-HISTORY = ('docs/LANDINGS.md',)  # tells of command lines that are gone
 NOT_RUN = {'.ci/run': 'it is what runs this test', 'rt ci': '.ci/run runs it'}
 PROGRAMS = re.compile(r'(\./|\.ci/|bench/|target/|tests/|tools/|rt |cc |gcc |cargo |python3? |desk )')
 IN_A_SENTENCE = re.compile(r'(?:`|system\(")((?:\./desk|\.ci/\w+|bench/\w+|target/[\w/]+|rt|cc|cargo|python3) [^`"]*)[`"]')
 MENTIONED = re.compile(r'[A-Z]{3,}|\.\.|^\./desk (compare|show|pack|unpack|report)$')  # no command line, but the name of one
 REFUSED = re.compile('^desk: refused ', re.M)
 BYTES = re.compile(r'^\| (\d+) \| `([0-9a-f ]+)` \| (\d+) \|', re.M)
+CRATES = re.compile(r'^\| `(\w+)` \| \S', re.M)
+DEFINED, INSIDE = re.compile(r'`crates/(\w+)/specs/`|`([A-Z]\w+)`'), '-- Serves contracts of functions inside the library only'
+CITED = re.compile(r'\bRattle·(\w+?)(?:·specs)?\.specs\.(?!declared\b)(\w+)')
 
 
 def page(name: str) -> str:
@@ -84,7 +87,7 @@ class Pages(unittest.TestCase):
         self.assertGreater(count, 12)
 
     def test_command_lines_within_sentences(self) -> None:
-        found = {line for name in PAGES if name not in HISTORY for line in sentences(page(name))}
+        found = {line for name in PAGES for line in sentences(page(name))}
         self.assertLessEqual({'./desk build', './desk show examples/k.book --json', '.ci/script show'}, found)
         for line in sorted(found):
             with self.subTest(line):
@@ -117,6 +120,36 @@ class Forms(unittest.TestCase):
             self.assertEqual(book[end:end + len(found)], found)
             end += len(found)
         self.assertEqual(end, len(book))
+
+
+class Crates(unittest.TestCase):
+    """What README.md says of the crates."""
+
+    def test_those_of_crates_txt_each_behind_what_it_needs(self) -> None:
+        needs = {}
+        for line in read('crates.txt').decode().splitlines():
+            name, found, others = line.partition(':')
+            if found and not line.startswith('#'):
+                needs[name] = set(others.split())
+        listed = CRATES.findall(page('README.md').partition('\n## The crates, lowest first\n')[2])
+        self.assertEqual((len(listed), set(listed)), (len(needs), needs.keys()))
+        for at, name in enumerate(listed):
+            self.assertLessEqual(needs[name] & needs.keys(), set(listed[:at]), name)
+
+    def test_definitions_are_named_in_an_order_to_read_them_in(self) -> None:
+        """Every file of definitions that has to be believed is named once, behind those that it cites."""
+        texts = {}
+        for path in glob.glob(os.path.join(TOP, 'crates', '*', 'specs', '*.antt')):
+            crate, _, file = os.path.relpath(path, os.path.join(TOP, 'crates')).split(os.sep)
+            texts[crate, file[:-len('.antt')]] = read('crates', crate, 'specs', file).decode()
+        needed = {each for each, text in texts.items() if not text.startswith(INSIDE) and each[1] != 'Lib' and each[0] != 'answers'}
+        named, crate = [], ''
+        for folder, file in DEFINED.findall(page('README.md').partition('\n## What to read\n')[2].partition('\nThen the entry')[0].partition('\n1. ')[2]):
+            crate = folder or crate
+            named += [(crate, file)] if file else []
+        self.assertEqual(sorted(named), sorted(needed))
+        for at, each in enumerate(named):
+            self.assertFalse(set(CITED.findall(texts[each])) & set(named[at + 1:]), f'{each} cites what is named behind it')
 
 
 if __name__ == '__main__':
