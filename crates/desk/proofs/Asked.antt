@@ -13,12 +13,14 @@ use Rattle.table.proofs.Words.{long-place, place-back, is-place, sound-loaded}
 use Rattle.book.specs.Encode.{bookSize}
 use Rattle.book.specs.Writing.{lengthOr}
 use Rattle.book.proofs.Checks.{first-none, held-first}
+use Rattle.shortlist.specs.Shortlist.{listed}
+use Rattle.shortlist.specs.Checks.{countOr}
 use Rattle.calls.specs.Answers.{Answer, answer, leaves, Limited}
 use Rattle.calls.specs.Calls.{emptyFault, Question, questionFault, Filling, filledWith, fillFault}
 use Rattle.calls.proofs.Asked.{is-loaded}
 use Rattle.desk.specs.declared.Desk.{Desk}
 use Rattle.desk.specs.Desk.{placeAt, tableAt, SoundDesk}
-use Rattle.desk.specs.Answers.{writtenSays}
+use Rattle.desk.specs.Answers.{writtenSays, shortlistedSays}
 use Rattle.desk.specs.Calls.{placeFault, ask, fill, numberOf, lentAfter}
 
 pub place-sound : (d : Desk) (i : ℕ) → SoundDesk d → SoundPlace (placeAt d i)
@@ -86,3 +88,9 @@ pub says-written : (n : ℕ) (ts : List Table) → writtenSays (lengthOr n ts) �
 unfolding lengthOr
 says-written zero ts = refl
 says-written (suc n) ts = refl
+
+-- A shortlist, whose fault is n.
+pub says-listed : (n : ℕ) (ts : List Table) → shortlistedSays (countOr n ts) ≡ answer n (length (listed ts))
+unfolding countOr
+says-listed zero ts = refl
+says-listed (suc n) ts = refl

@@ -1,6 +1,7 @@
 -- The calls on a desk, by what they do, each with its input; the number that each is refused with, and what each leaves. The contracts of
 -- the desk's methods, those of the library for C and the demands all speak of these definitions.
 use Prim.Native.Nat.{ℕ}
+use mathlib.Core.Path.{_≡_}
 use mathlib.Core.List.{List, [], _∷_}
 use lib.ListN.{length}
 use Rattle.table.specs.Table.{Table}
@@ -16,7 +17,7 @@ use Rattle.spread.specs.declared.Spread.{Spread}
 use Rattle.shortlist.specs.Shortlist.{listed}
 use Rattle.shortlist.specs.Checks as listing
 use Rattle.shortlist.specs.Checks.{shortlistFault}
-use Rattle.calls.specs.Answers.{Answer, leaves, Limited}
+use Rattle.calls.specs.Answers.{Answer, answer, leaves, Limited}
 use Rattle.calls.specs.Calls.{Question, spread, questionFault, Filling, fillSize, filledWith, fillFault, Change, changedTo, changeFault, compareFault}
 use Rattle.calls.specs.Shares.{sharesFault}
 use Rattle.desk.specs.declared.Desk.{Desk}
@@ -91,6 +92,10 @@ lentSize d (fill i f out) = fillSize (tableAt d i) f
 lentSize d (write out) = bookSize (loadedTables d)
 lentSize d (shortlist book out) = length (listed (allTables book))
 lentSize d (change i c) = 0
+
+-- What a call answers that returns how much it wrote: write the length of the book, shortlist how many are listed.
+abbrev pub Returns : Desk → Call → Answer ℕ → Type 0
+Returns d c r = r ≡ answer (numberOf d c) (lentSize d c)
 
 -- What compare may answer. Refusals and the kind of verdict are given; the price pairs are limited only, since "which pair is carried
 -- is free; its prices are at most 1,000,000 and its costs differ as said".

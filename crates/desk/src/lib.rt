@@ -5,15 +5,15 @@ ghost use lib.Dec.{eqb};
 ghost use lib.ListN.{length};
 ghost use Rattle.table.specs.Place.{marked};
 ghost use Rattle.table.specs.Words.{placeSize, wordsOf, placeIn};
-ghost use Rattle.book.specs.Encode.{bookSize};
 ghost use Rattle.cutoff.specs.Cutoff.{cheapestOf};
 ghost use Rattle.measures.specs.Measures.{measuresOf};
 ghost use Rattle.measures.specs.Brier.{brierOf};
 ghost use Rattle.calls.specs.Answers.{answer, leaves, cheapestSays, compareSays, measuresSays, brierSays, spreadSays};
-ghost use Rattle.calls.specs.Calls.{cheapest, measures, brier, pool, load, clear};
+ghost use Rattle.calls.specs.Calls.{cheapest, measures, brier, spread, pool, load, clear};
 ghost use Rattle.desk.specs.Desk.{freshDesk, placeAt, tableAt, withPlace, SoundDesk};
-ghost use Rattle.desk.specs.Answers.{ackSays, writtenSays};
-ghost use Rattle.desk.specs.Calls.{placeFault, ask, fill, write, change, numberOf, after, lentAfter, loadedTables, Compares, ComparesByShares, Spreads};
+ghost use Rattle.desk.specs.Answers.{ackSays, writtenSays, shortlistedSays};
+ghost use Rattle.desk.specs.Calls.{placeFault, ask, compare, compareShares, fill, write, shortlist, change};
+ghost use Rattle.desk.specs.Calls.{numberOf, after, lentAfter, Returns, Compares, ComparesByShares, Spreads};
 use book::Written;
 use calls::BrierAnswer;
 use calls::CheapestAnswer;
@@ -21,6 +21,7 @@ use calls::CompareAnswer;
 use calls::MeasuresAnswer;
 use calls::SpreadAnswer;
 use refusals::NO_PLACE;
+use shortlist::Shortlisted;
 use table::LOADED;
 use table::PLACE;
 use table::Place;
@@ -173,6 +174,7 @@ impl Desk {
     // The three numbers of each grade of the table in a place, into a lent buffer whose further numbers are kept.
     pub fn pool(self, place: u32, out: &mut [u32]) -> Ack
         requires { ⌜ SoundDesk self ⌝ }
+        ensures desk { λ _. ⌜ self ≡ after self (fill place pool (now (out .entry))) ⌝ }
         ensures { λ r. ⌜ now (out .exit) ≡ lentAfter self (fill place pool (now (out .entry))) ⌝ }
         ensures { λ r. ⌜ ackSays r ≡ answer (numberOf self (fill place pool (now (out .entry)))) tt ⌝ }
     {
@@ -186,6 +188,7 @@ impl Desk {
     // The cheapest cutoff at price u of a missed default and v of a survivor turned away.
     pub fn cheapest(self, place: u32, u: u32, v: u32) -> CheapestAnswer
         requires { ⌜ SoundDesk self ⌝ }
+        ensures desk { λ _. ⌜ self ≡ after self (ask place (cheapest u v)) ⌝ }
         ensures { λ r. ⌜ cheapestSays r ≡ answer (numberOf self (ask place (cheapest u v))) (cheapestOf (tableAt self place) u v) ⌝ }
     {
         if !is_place(place) {
@@ -199,6 +202,7 @@ impl Desk {
     // "Which pair is carried is free; its prices are at most 1,000,000 and its costs differ as said".
     pub fn compare(self) -> CompareAnswer
         requires { ⌜ SoundDesk self ⌝ }
+        ensures desk { λ _. ⌜ self ≡ after self compare ⌝ }
         ensures { λ r. ⌜ Compares self (compareSays r) ⌝ }
     {
         let first = self.first.words();
@@ -210,6 +214,7 @@ impl Desk {
     // so the contract limits them: "The pairs carried have prices up to 2,500,000,000".
     pub fn compare_shares(self) -> CompareAnswer
         requires { ⌜ SoundDesk self ⌝ }
+        ensures desk { λ _. ⌜ self ≡ after self compareShares ⌝ }
         ensures { λ r. ⌜ ComparesByShares self (compareSays r) ⌝ }
     {
         let first = self.first.words();
@@ -220,6 +225,7 @@ impl Desk {
     // D, S and the four measures of the table in a place.
     pub fn measures(self, place: u32) -> MeasuresAnswer
         requires { ⌜ SoundDesk self ⌝ }
+        ensures desk { λ _. ⌜ self ≡ after self (ask place measures) ⌝ }
         ensures { λ r. ⌜ measuresSays r ≡ answer (numberOf self (ask place measures)) (measuresOf (tableAt self place)) ⌝ }
     {
         if !is_place(place) {
@@ -232,6 +238,7 @@ impl Desk {
     // The Brier score of the announced rates.
     pub fn brier(self, place: u32) -> BrierAnswer
         requires { ⌜ SoundDesk self ⌝ }
+        ensures desk { λ _. ⌜ self ≡ after self (ask place brier) ⌝ }
         ensures { λ r. ⌜ brierSays r ≡ answer (numberOf self (ask place brier)) (brierOf (tableAt self place)) ⌝ }
     {
         if !is_place(place) {
@@ -245,6 +252,7 @@ impl Desk {
     // are freer, bound as above".
     pub fn spread(self, place: u32) -> SpreadAnswer
         requires { ⌜ SoundDesk self ⌝ }
+        ensures desk { λ _. ⌜ self ≡ after self (ask place spread) ⌝ }
         ensures { λ r. ⌜ Spreads self place (spreadSays r) ⌝ }
     {
         if !is_place(place) {
@@ -257,11 +265,22 @@ impl Desk {
     // The loaded places, 1 before 2, as a book of kind 0 in a lent buffer whose further bytes are kept.
     pub fn write(self, out: &mut [u8]) -> Written
         requires { ⌜ SoundDesk self ⌝ }
+        ensures desk { λ _. ⌜ self ≡ after self (write (now (out .entry))) ⌝ }
         ensures { λ r. ⌜ now (out .exit) ≡ lentAfter self (write (now (out .entry))) ⌝ }
-        ensures { λ r. ⌜ writtenSays r ≡ answer (numberOf self (write (now (out .entry)))) (bookSize (loadedTables self)) ⌝ }
+        ensures { λ r. ⌜ Returns self (write (now (out .entry))) (writtenSays r) ⌝ }
     {
         let first = self.first.words();
         let second = self.second.words();
         book::write(&first, &second, out)
     }
+}
+
+// The numbers of the raters of a book for which no other one is better, in book order, into a lent buffer whose further numbers are kept. No desk
+// plays a part: what is said here of a fresh one holds of every desk.
+pub fn shortlist(book: &[u8], out: &mut [u32]) -> Shortlisted
+    ensures desk { λ _. ⌜ freshDesk ≡ after freshDesk (shortlist (now (book .entry)) (now (out .entry))) ⌝ }
+    ensures { λ _. ⌜ now (out .exit) ≡ lentAfter freshDesk (shortlist (now (book .entry)) (now (out .entry))) ⌝ }
+    ensures { λ r. ⌜ Returns freshDesk (shortlist (now (book .entry)) (now (out .entry))) (shortlistedSays r) ⌝ }
+{
+    shortlist::shortlist(book, out)
 }

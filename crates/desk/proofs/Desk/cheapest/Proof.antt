@@ -1,4 +1,5 @@
 -- `cheapest` meets its contract.
+use mathlib.Core.Path.{refl}
 use native.Mathlib.Omega.{arith}
 use borrow.Author.Needs.{needs}
 use Rattle.table.specs.declared.Place.{Place}
@@ -12,7 +13,7 @@ use Rattle.desk.proofs.Desk.cheapest.Statement.{statement}
 use Rattle.desk.proofs.Desk.cheapest.Tie as tie
 
 returns : tie.Need-returns
-returns c = refuses 1 _ (missing _ _ _ (c .before .is-place .ensures) (c .if1 .taken)) (λ z. omega arith)
+returns c = (refl, refuses 1 _ (missing _ _ _ (c .before .is-place .ensures) (c .if1 .taken)) (λ z. omega arith))
 
 requires-place : tie.Need-cheapest-requires
 requires-place c κs =
@@ -24,7 +25,7 @@ returns-2 c =
     let l = c .before .before .before in
     let a = l .before .before in
     let here = there (a .args .place) _ (l .before .is-place .ensures) (l .if1 .left) in
-    answered _ (a .args .place) (a .pre) (c .before .before .words .ensures) here (cheapest (a .args .u) (a .args .v)) (λ (p : Place). cheapestOf (tableOf p) (a .args .u) (a .args .v)) (c .cheapest .ensures)
+    (refl, answered _ (a .args .place) (a .pre) (c .before .before .words .ensures) here (cheapest (a .args .u) (a .args .v)) (λ (p : Place). cheapestOf (tableOf p) (a .args .u) (a .args .v)) (c .cheapest .ensures))
 
 pub cheapest-spec : {M : Type 1} → statement M
 cheapest-spec =

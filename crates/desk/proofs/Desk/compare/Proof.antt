@@ -1,4 +1,5 @@
 -- `compare` meets its contract.
+use mathlib.Core.Path.{refl}
 use borrow.Author.Needs.{needs}
 use Rattle.calls.specs.Answers.{compareSays}
 use Rattle.calls.specs.Calls.{Compared}
@@ -14,8 +15,8 @@ compare-requires c κs =
 returns : tie.Need-returns
 returns c =
     let a = c .before .before .before .before .before in
-    of-both (a .args .self) (a .pre) (c .before .before .before .before .words .ensures) (c .before .before .before .words2 .ensures)
-    (λ p q. Compared p q (compareSays (c .compare .result))) (c .compare .ensures)
+    (refl, of-both (a .args .self) (a .pre) (c .before .before .before .before .words .ensures) (c .before .before .before .words2 .ensures)
+    (λ p q. Compared p q (compareSays (c .compare .result))) (c .compare .ensures))
 
 pub compare-spec : {M : Type 1} → statement M
 compare-spec =

@@ -1,4 +1,5 @@
 -- `compare_shares` meets its contract.
+use mathlib.Core.Path.{refl}
 use borrow.Author.Needs.{needs}
 use Rattle.calls.specs.Answers.{compareSays}
 use Rattle.calls.specs.Shares.{ComparedByShares}
@@ -14,8 +15,8 @@ compare-shares-requires c κs =
 returns : tie.Need-returns
 returns c =
     let a = c .before .before .before .before .before in
-    of-both (a .args .self) (a .pre) (c .before .before .before .before .words .ensures) (c .before .before .before .words2 .ensures)
-    (λ p q. ComparedByShares p q (compareSays (c .compare-shares .result))) (c .compare-shares .ensures)
+    (refl, of-both (a .args .self) (a .pre) (c .before .before .before .before .words .ensures) (c .before .before .before .words2 .ensures)
+    (λ p q. ComparedByShares p q (compareSays (c .compare-shares .result))) (c .compare-shares .ensures))
 
 pub compare-shares-spec : {M : Type 1} → statement M
 compare-shares-spec =

@@ -1,4 +1,5 @@
 -- `measures` meets its contract.
+use mathlib.Core.Path.{refl}
 use native.Mathlib.Omega.{arith}
 use borrow.Author.Needs.{needs}
 use Rattle.table.specs.declared.Place.{Place}
@@ -12,7 +13,7 @@ use Rattle.desk.proofs.Desk.measures.Statement.{statement}
 use Rattle.desk.proofs.Desk.measures.Tie as tie
 
 returns : tie.Need-returns
-returns c = refuses 1 _ (missing _ _ _ (c .before .is-place .ensures) (c .if1 .taken)) (λ z. omega arith)
+returns c = (refl, refuses 1 _ (missing _ _ _ (c .before .is-place .ensures) (c .if1 .taken)) (λ z. omega arith))
 
 requires-place : tie.Need-measures-requires
 requires-place c κs =
@@ -24,7 +25,7 @@ returns-2 c =
     let l = c .before .before .before in
     let a = l .before .before in
     let here = there (a .args .place) _ (l .before .is-place .ensures) (l .if1 .left) in
-    answered _ (a .args .place) (a .pre) (c .before .before .words .ensures) here measures (λ (p : Place). measuresOf (tableOf p)) (c .measures .ensures)
+    (refl, answered _ (a .args .place) (a .pre) (c .before .before .words .ensures) here measures (λ (p : Place). measuresOf (tableOf p)) (c .measures .ensures))
 
 pub measures-spec : {M : Type 1} → statement M
 measures-spec =

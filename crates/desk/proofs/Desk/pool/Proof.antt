@@ -15,7 +15,7 @@ use Rattle.desk.proofs.Desk.pool.Tie as tie
 returns : tie.Need-returns
 returns c =
     let e = missing _ _ _ (c .before .is-place .ensures) (c .if1 .taken) in
-    (left-alone 1 _ e (λ z. omega arith) refl, refuses 1 _ e (λ z. omega arith))
+    (refl, (left-alone 1 _ e (λ z. omega arith) refl, refuses 1 _ e (λ z. omega arith)))
 
 pool-requires : tie.Need-pool-requires
 pool-requires c κs =
@@ -31,8 +31,8 @@ returns-2 c =
     let a = l .before .before .before in
     let here = there (a .args .place) _ (l .before .is-place .ensures) (l .if1 .left) in
     let n = fill-number _ (a .args .place) (a .pre) (w .words .ensures) here pool (now (a .args .out)) (p .pool .ensures .0) in (
-      fill-buffer _ (a .args .place) (a .pre) (w .words .ensures) here pool (now (a .args .out)) (p .pool .ensures .0) (p .pool .ensures .1),
-      c .of .ensures ∙ ap (λ (m : ℕ). answer m tt) n,
+      refl,
+      (fill-buffer _ (a .args .place) (a .pre) (w .words .ensures) here pool (now (a .args .out)) (p .pool .ensures .0) (p .pool .ensures .1), c .of .ensures ∙ ap (λ (m : ℕ). answer m tt) n),
     )
 
 pub pool-spec : {M : Type 1} → statement M

@@ -1,5 +1,5 @@
 -- `spread` meets its contract.
-use mathlib.Core.Path.{sym}
+use mathlib.Core.Path.{refl, sym}
 use native.Mathlib.Omega.{arith}
 use borrow.Author.Needs.{needs}
 use Rattle.table.specs.declared.Place.{Place}
@@ -13,7 +13,7 @@ use Rattle.desk.proofs.Desk.spread.Statement.{statement}
 use Rattle.desk.proofs.Desk.spread.Tie as tie
 
 returns : tie.Need-returns
-returns c = (sym (missing _ _ _ (c .before .is-place .ensures) (c .if1 .taken)), λ z. omega arith)
+returns c = (refl, (sym (missing _ _ _ (c .before .is-place .ensures) (c .if1 .taken)), λ z. omega arith))
 
 requires-place : tie.Need-spread-requires
 requires-place c κs =
@@ -25,7 +25,7 @@ returns-2 c =
     let l = c .before .before .before in
     let a = l .before .before in
     let here = there (a .args .place) _ (l .before .is-place .ensures) (l .if1 .left) in
-    limited _ (a .args .place) (a .pre) (c .before .before .words .ensures) here spread (λ (p : Place). IsSpread (tableOf p)) (spreadSays (c .spread .result)) (c .spread .ensures)
+    (refl, limited _ (a .args .place) (a .pre) (c .before .before .words .ensures) here spread (λ (p : Place). IsSpread (tableOf p)) (spreadSays (c .spread .result)) (c .spread .ensures))
 
 pub spread-spec : {M : Type 1} → statement M
 spread-spec =

@@ -1,5 +1,5 @@
 -- `write` meets its contract.
-use mathlib.Core.Path.{_≡_, _∙_, ap}
+use mathlib.Core.Path.{_≡_, refl, _∙_, ap}
 use mathlib.Core.List.{List}
 use borrow.Author.Needs.{needs}
 use denote.Ref.{now}
@@ -35,8 +35,8 @@ returns c =
     let second = place-is d 2 (a .pre) (v .words2 .ensures) in
     let ts : lentTables (v .before .words .result) (v .words2 .result) ≡ loadedTables d =
     ap (λ (p : Place). tablesOf p (placeIn (v .words2 .result))) first ∙ ap (λ (p : Place). tablesOf (d .first) p) second in (
-      e .write .ensures .1 ∙ ap (λ (x : List Table). bufferAfter x out) ts,
-      ap writtenSays (e .write .ensures .0 ∙ ap (λ (x : List Table). writeAnswer x (length out)) ts) ∙ says-written (writeFault (loadedTables d) (length out)) (loadedTables d),
+      refl,
+      (e .write .ensures .1 ∙ ap (λ (x : List Table). bufferAfter x out) ts, ap writtenSays (e .write .ensures .0 ∙ ap (λ (x : List Table). writeAnswer x (length out)) ts) ∙ says-written (writeFault (loadedTables d) (length out)) (loadedTables d)),
     )
 
 pub write-spec : {M : Type 1} → statement M
