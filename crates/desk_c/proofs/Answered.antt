@@ -3,13 +3,7 @@ use Prim.Native.Nat.{ℕ, zero, suc}
 use mathlib.Core.Path.{_≡_, refl, sym}
 use mathlib.Core.List.{List}
 use native.Mathlib.Omega.{arith}
-use lib.ListN.{length}
-use Rattle.table.specs.Table.{Table}
 use Rattle.cutoff.specs.declared.Verdict.{Verdict}
-use Rattle.shortlist.specs.Shortlist.{listed}
-use Rattle.shortlist.specs.Checks.{countOr}
-use Rattle.shortlist.specs.declared.Shortlisted.{Shortlisted}
-use Rattle.shortlist.specs.declared.Shortlisted.the-variants.{Count, Refused}
 use Rattle.calls.specs.Answers.{Answer, accepted, refused, answer, leaves, Limited}
 use Rattle.calls.proofs.Answered.{keeps}
 use Rattle.desk_c.specs.Numbers.{Left, verdictNumbers}
@@ -39,13 +33,3 @@ pub left-verdict : {n m : ℕ} {new : List ℕ} (old : List ℕ) (P : Verdict �
     → Limited n P a → m ≡ numberSaid a → new ≡ verdictLeft a old → (m ≡ n) × Left m P verdictNumbers old new
 left-verdict old P (accepted v) l e f = rw e (sym (l .0), (v, l .1, f))
 left-verdict old P (refused k) l e f = rw (e, f) (left-kept P verdictNumbers old k _ (l .0) (l .1))
-
--- A shortlist, whose fault is n: how many raters are listed, or the refusal.
-abbrev pub shortlistSays : Shortlisted → Answer ℕ
-shortlistSays (Count n) = accepted n
-shortlistSays (Refused n) = refused n
-
-pub says-listed : (n : ℕ) (ts : List Table) → shortlistSays (countOr n ts) ≡ answer n (length (listed ts))
-unfolding countOr
-says-listed zero ts = refl
-says-listed (suc n) ts = refl

@@ -1,19 +1,15 @@
 // The desk for callers in C and other languages: every entry point over the image of a desk in the caller's memory, of which a part is lent
 // to the calls on words. A function returns 0 or the refusal number; its answer goes to a lent buffer, which a refusal leaves as it was.
 ghost use mathlib.Core.Path.{_≡_};
-ghost use lib.ListN.{length};
-ghost use Rattle.book.specs.Encode.{bookSize};
-ghost use Rattle.book.specs.Reading.{allTables};
 ghost use Rattle.cutoff.specs.Cutoff.{cheapestOf};
 ghost use Rattle.measures.specs.Measures.{measuresOf};
 ghost use Rattle.measures.specs.Brier.{brierOf};
 ghost use Rattle.spread.specs.Spread.{IsSpread};
-ghost use Rattle.shortlist.specs.Shortlist.{listed};
-ghost use Rattle.shortlist.specs.Checks.{shortlistFault, bufferAfter};
 ghost use Rattle.calls.specs.Answers.{leaves, compareSays};
 ghost use Rattle.calls.specs.Calls.{cheapest, measures, brier, spread, pool, load, clear};
 ghost use Rattle.desk.specs.Desk.{freshDesk};
-ghost use Rattle.desk.specs.Calls.{ask, compare, compareShares, fill, write, change, numberOf, after, lentAfter, loadedTables};
+ghost use Rattle.desk.specs.Calls.{ask, compare, compareShares, fill, write, shortlist, change};
+ghost use Rattle.desk.specs.Calls.{numberOf, after, lentAfter, lentSize};
 ghost use Rattle.desk_c.specs.Image.{imageOf, deskIn, tableOn, IsImage};
 ghost use Rattle.desk_c.specs.Numbers.{Left, cutoffNumbers, VerdictOn, VerdictOnShares, verdictNumbers, measuresNumbers, fractionNumbers, spreadNumbers};
 ghost use Rattle.desk_c.specs.Private.{numberSaid, verdictLeft};
@@ -97,6 +93,7 @@ pub extern "C" fn desk_clear(desk: &mut [u32; DESK], place: u32) -> u32
 #[no_mangle]
 pub extern "C" fn desk_pool(desk: &[u32; DESK], place: u32, numbers: &mut [u32]) -> u32
     requires { ⌜ IsImage (now desk) ⌝ }
+    ensures desk { λ _. ⌜ now (desk .entry) ≡ imageOf (after (deskIn (now (desk .entry))) (fill place pool (now (numbers .entry)))) ⌝ }
     ensures { λ r. ⌜ r ≡ numberOf (deskIn (now (desk .entry))) (fill place pool (now (numbers .entry))) ⌝ }
     ensures { λ _. ⌜ now (numbers .exit) ≡ lentAfter (deskIn (now (desk .entry))) (fill place pool (now (numbers .entry))) ⌝ }
 {
@@ -116,6 +113,7 @@ pub extern "C" fn desk_cheapest(
     answer: &mut [i64; 2],
 ) -> u32
     requires { ⌜ IsImage (now desk) ⌝ }
+    ensures desk { λ _. ⌜ now (desk .entry) ≡ imageOf (after (deskIn (now (desk .entry))) (ask place (cheapest u v))) ⌝ }
     ensures { λ r. ⌜ r ≡ numberOf (deskIn (now (desk .entry))) (ask place (cheapest u v)) ⌝ }
     ensures { λ r. ⌜ now (answer .exit) ≡ leaves r (now (answer .entry)) (cutoffNumbers (cheapestOf (tableOn (now (desk .entry)) place) u v)) ⌝ }
 {
@@ -150,6 +148,7 @@ fn put_verdict(compared: CompareAnswer, answer: &mut [u32; 5]) -> u32
 #[no_mangle]
 pub extern "C" fn desk_compare(desk: &[u32; DESK], answer: &mut [u32; 5]) -> u32
     requires { ⌜ IsImage (now desk) ⌝ }
+    ensures desk { λ _. ⌜ now (desk .entry) ≡ imageOf (after (deskIn (now (desk .entry))) compare) ⌝ }
     ensures { λ r. ⌜ r ≡ numberOf (deskIn (now (desk .entry))) compare ⌝ }
     ensures { λ r. ⌜ Left r (VerdictOn (now (desk .entry))) verdictNumbers (now (answer .entry)) (now (answer .exit)) ⌝ }
 {
@@ -164,6 +163,7 @@ pub extern "C" fn desk_compare(desk: &[u32; DESK], answer: &mut [u32; 5]) -> u32
 #[no_mangle]
 pub extern "C" fn desk_compare_shares(desk: &[u32; DESK], answer: &mut [u32; 5]) -> u32
     requires { ⌜ IsImage (now desk) ⌝ }
+    ensures desk { λ _. ⌜ now (desk .entry) ≡ imageOf (after (deskIn (now (desk .entry))) compareShares) ⌝ }
     ensures { λ r. ⌜ r ≡ numberOf (deskIn (now (desk .entry))) compareShares ⌝ }
     ensures { λ r. ⌜ Left r (VerdictOnShares (now (desk .entry))) verdictNumbers (now (answer .entry)) (now (answer .exit)) ⌝ }
 {
@@ -189,6 +189,7 @@ fn numbers_of(v: Verdict) -> [u32; 5]
 #[no_mangle]
 pub extern "C" fn desk_measures(desk: &[u32; DESK], place: u32, answer: &mut [i64; 11]) -> u32
     requires { ⌜ IsImage (now desk) ⌝ }
+    ensures desk { λ _. ⌜ now (desk .entry) ≡ imageOf (after (deskIn (now (desk .entry))) (ask place measures)) ⌝ }
     ensures { λ r. ⌜ r ≡ numberOf (deskIn (now (desk .entry))) (ask place measures) ⌝ }
     ensures { λ r. ⌜ now (answer .exit) ≡ leaves r (now (answer .entry)) (measuresNumbers (measuresOf (tableOn (now (desk .entry)) place))) ⌝ }
 {
@@ -221,6 +222,7 @@ pub extern "C" fn desk_measures(desk: &[u32; DESK], place: u32, answer: &mut [i6
 #[no_mangle]
 pub extern "C" fn desk_brier(desk: &[u32; DESK], place: u32, answer: &mut [i64; 2]) -> u32
     requires { ⌜ IsImage (now desk) ⌝ }
+    ensures desk { λ _. ⌜ now (desk .entry) ≡ imageOf (after (deskIn (now (desk .entry))) (ask place brier)) ⌝ }
     ensures { λ r. ⌜ r ≡ numberOf (deskIn (now (desk .entry))) (ask place brier) ⌝ }
     ensures { λ r. ⌜ now (answer .exit) ≡ leaves r (now (answer .entry)) (fractionNumbers (brierOf (tableOn (now (desk .entry)) place))) ⌝ }
 {
@@ -241,6 +243,7 @@ pub extern "C" fn desk_brier(desk: &[u32; DESK], place: u32, answer: &mut [i64; 
 #[no_mangle]
 pub extern "C" fn desk_spread(desk: &[u32; DESK], place: u32, answer: &mut [f64; 2]) -> u32
     requires { ⌜ IsImage (now desk) ⌝ }
+    ensures desk { λ _. ⌜ now (desk .entry) ≡ imageOf (after (deskIn (now (desk .entry))) (ask place spread)) ⌝ }
     ensures { λ r. ⌜ r ≡ numberOf (deskIn (now (desk .entry))) (ask place spread) ⌝ }
     ensures { λ r. ⌜ Left r (IsSpread (tableOn (now (desk .entry)) place)) spreadNumbers (now (answer .entry)) (now (answer .exit)) ⌝ }
 {
@@ -261,9 +264,10 @@ pub extern "C" fn desk_spread(desk: &[u32; DESK], place: u32, answer: &mut [f64;
 #[no_mangle]
 pub extern "C" fn desk_write(desk: &[u32; DESK], book: &mut [u8], written: &mut usize) -> u32
     requires { ⌜ IsImage (now desk) ⌝ }
+    ensures desk { λ _. ⌜ now (desk .entry) ≡ imageOf (after (deskIn (now (desk .entry))) (write (now (book .entry)))) ⌝ }
     ensures { λ r. ⌜ r ≡ numberOf (deskIn (now (desk .entry))) (write (now (book .entry))) ⌝ }
     ensures { λ _. ⌜ now (book .exit) ≡ lentAfter (deskIn (now (desk .entry))) (write (now (book .entry))) ⌝ }
-    ensures { λ r. let d = deskIn (now (desk .entry)) in ⌜ now (written .exit) ≡ leaves r (now (written .entry)) (bookSize (loadedTables d)) ⌝ }
+    ensures { λ r. let d = deskIn (now (desk .entry)) in ⌜ now (written .exit) ≡ leaves r (now (written .entry)) (lentSize d (write (now (book .entry)))) ⌝ }
 {
     let answered = book::write(words_at(desk, 0), words_at(desk, PLACE), book);
     match answered {
@@ -276,14 +280,15 @@ pub extern "C" fn desk_write(desk: &[u32; DESK], book: &mut [u8], written: &mut 
 }
 
 // The numbers of the raters of a book for which no other one is better, in book order, into a lent buffer whose further numbers are kept, and how
-// many there are. No desk plays a part.
+// many there are. No desk plays a part: what is said here of a fresh one holds of every desk.
 #[no_mangle]
 pub extern "C" fn desk_shortlist(book: &[u8], numbers: &mut [u32], count: &mut usize) -> u32
-    ensures { λ r. ⌜ r ≡ shortlistFault (now (book .entry)) (length (now (numbers .entry))) ⌝ }
-    ensures { λ _. ⌜ now (numbers .exit) ≡ bufferAfter (now (book .entry)) (now (numbers .entry)) ⌝ }
-    ensures { λ r. ⌜ now (count .exit) ≡ leaves r (now (count .entry)) (length (listed (allTables (now (book .entry))))) ⌝ }
+    ensures desk { λ _. ⌜ freshDesk ≡ after freshDesk (shortlist (now (book .entry)) (now (numbers .entry))) ⌝ }
+    ensures { λ r. ⌜ r ≡ numberOf freshDesk (shortlist (now (book .entry)) (now (numbers .entry))) ⌝ }
+    ensures { λ _. ⌜ now (numbers .exit) ≡ lentAfter freshDesk (shortlist (now (book .entry)) (now (numbers .entry))) ⌝ }
+    ensures { λ r. let c = shortlist (now (book .entry)) (now (numbers .entry)) in ⌜ now (count .exit) ≡ leaves r (now (count .entry)) (lentSize freshDesk c) ⌝ }
 {
-    let answered = shortlist::shortlist(book, numbers);
+    let answered = desk::shortlist(book, numbers);
     match answered {
         Shortlisted::Count(n) => {
             *count = n as usize;

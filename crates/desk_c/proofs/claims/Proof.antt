@@ -6,9 +6,7 @@ use Rattle.cutoff.specs.Verdict.{FirstDearer, SecondDearer}
 use Rattle.cutoff.specs.declared.Price.{Price}
 use Rattle.cutoff.specs.declared.Verdict.{Verdict}
 use Rattle.cutoff.specs.declared.Verdict.the-variants.{Equal, First, Second, Crossing}
-use Rattle.demands.specs.History.{deskAfter}
-use Rattle.demands.proofs.History.{desk-sound}
-use Rattle.desk_c.proofs.Images.{desk-back, is-image}
+use Rattle.desk_c.proofs.Images.{desk-back}
 use Rattle.desk_c.specs.Numbers.{verdictNumbers}
 use Rattle.desk_c.proofs.claims.Statement.{statement}
 use Rattle.desk_c.proofs.claims.Tie as tie
@@ -24,7 +22,6 @@ told (Crossing q r) p = (λ e. rw e refl, λ e. rw e refl)
 returns : tie.Need-returns
 returns c = record {
   images-read-back = desk-back;
-  calls-leave-images = λ calls. is-image (deskAfter calls) (desk-sound calls);
   pairs-are-told-apart = told;
 }
 

@@ -23,7 +23,7 @@ use Rattle.desk_c.proofs.desk_brier.Statement.{statement}
 use Rattle.desk_c.proofs.desk_brier.Tie as tie
 
 returns : tie.Need-returns
-returns c = (missing _ _ _ (c .before .is-place .ensures) (c .if1 .taken), refl)
+returns c = (c .before .before .pre .exact, (missing _ _ _ (c .before .is-place .ensures) (c .if1 .taken), refl))
 
 -- the place that is asked
 abbrev start : tie.After-words-at → tie.Start
@@ -56,10 +56,12 @@ returns-2 c =
     let k = c .before .before .before .before in
     let f = few k in
     let e = accepted-is _ _ (ap brierSays (sym (k .scored .given .1)) ∙ says (answer-of k)) in
-    rw (count-back _ (f .numerator), count-back _ (f .denominator)) (e .0, ap fractionNumbers (e .1))
+    (start (answer-of k .before) .pre .exact, rw (count-back _ (f .numerator), count-back _ (f .denominator)) (e .0, ap fractionNumbers (e .1)))
 
 returns-3 : tie.Need-returns-3
-returns-3 c = kept _ _ _ _ _ (ap brierSays (sym (c .before .scored2 .given .1)) ∙ says (c .before .before .before))
+returns-3 c =
+    let d = c .before .before .before in
+    (start (d .before) .pre .exact, kept _ _ _ _ _ (ap brierSays (sym (c .before .scored2 .given .1)) ∙ says d))
 
 pub desk-brier-spec : {M : Type 1} → statement M
 desk-brier-spec =

@@ -25,7 +25,7 @@ use Rattle.desk_c.proofs.desk_cheapest.Statement.{statement}
 use Rattle.desk_c.proofs.desk_cheapest.Tie as tie
 
 returns : tie.Need-returns
-returns c = (missing _ _ _ (c .before .is-place .ensures) (c .if1 .taken), refl)
+returns c = (c .before .before .pre .exact, (missing _ _ _ (c .before .is-place .ensures) (c .if1 .taken), refl))
 
 -- the place that is asked
 abbrev start : tie.After-words-at → tie.Start
@@ -61,12 +61,12 @@ returns-2 : tie.Need-returns-2
 returns-2 c =
     let k = c .before .before .before .before in
     let e = accepted-is _ _ (ap cheapestSays (sym (k .cheapest2 .given .1)) ∙ says (answer-of k)) in
-    (e .0, stores-cutoff (k .cheapest2 .given .0 .0) (few k) ∙ ap cutoffNumbers (e .1))
+    (start (answer-of k .before) .pre .exact, (e .0, stores-cutoff (k .cheapest2 .given .0 .0) (few k) ∙ ap cutoffNumbers (e .1)))
 
 returns-3 : tie.Need-returns-3
 returns-3 c =
     let d = c .before .before .before in
-    kept _ _ _ _ _ (ap cheapestSays (sym (c .before .cheapest3 .given .1)) ∙ says d)
+    (start (d .before) .pre .exact, kept _ _ _ _ _ (ap cheapestSays (sym (c .before .cheapest3 .given .1)) ∙ says d))
 
 pub desk-cheapest-spec : {M : Type 1} → statement M
 desk-cheapest-spec =

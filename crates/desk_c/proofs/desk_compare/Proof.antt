@@ -26,11 +26,13 @@ returns c =
     let k = a .before in
     let i = start k .pre in
     let w = now (start k .args .desk) in
-    let r = compareSays (a .compare .result) in
-    left-verdict (now (start k .args .answer)) (VerdictOn w) r
-    (of-both _ (i .sound) (k .before .before .words-at .ensures ∙ words-of i 1 0 refl) (k .words-at2 .ensures ∙ words-of i 2 122 refl)
-    (λ p q. Compared p q r) (a .compare .ensures))
-    (c .put-verdict .ensures .0) (c .put-verdict .ensures .1)
+    let r = compareSays (a .compare .result) in (
+      i .exact,
+      left-verdict (now (start k .args .answer)) (VerdictOn w) r
+          (of-both _ (i .sound) (k .before .before .words-at .ensures ∙ words-of i 1 0 refl) (k .words-at2 .ensures ∙ words-of i 2 122 refl)
+          (λ p q. Compared p q r) (a .compare .ensures))
+          (c .put-verdict .ensures .0) (c .put-verdict .ensures .1),
+    )
 
 pub desk-compare-spec : {M : Type 1} → statement M
 desk-compare-spec =

@@ -23,7 +23,7 @@ use Rattle.desk_c.proofs.desk_measures.Statement.{statement}
 use Rattle.desk_c.proofs.desk_measures.Tie as tie
 
 returns : tie.Need-returns
-returns c = (missing _ _ _ (c .before .is-place .ensures) (c .if1 .taken), refl)
+returns c = (c .before .before .pre .exact, (missing _ _ _ (c .before .is-place .ensures) (c .if1 .taken), refl))
 
 -- the place that is asked
 abbrev start : tie.After-words-at → tie.Start
@@ -58,10 +58,12 @@ returns-2 c =
     let fits = c .before .struct-told .given in
     let known : Signed m = record { gini = record { sfits = fits .1 .1 .0 .1 .1 .0 .1 }; pietra = record { sfits = fits .1 .1 .1 .1 .1 .0 .1 .1 .0 .1 }; few = few k } in
     let e = accepted-is _ _ (ap measuresSays (sym (k .measured .given .1)) ∙ says (answer-of k)) in
-    (e .0, stores-numbers m known ∙ ap measuresNumbers (e .1))
+    (start (answer-of k .before) .pre .exact, (e .0, stores-numbers m known ∙ ap measuresNumbers (e .1)))
 
 returns-3 : tie.Need-returns-3
-returns-3 c = kept _ _ _ _ _ (ap measuresSays (sym (c .before .measured2 .given .1)) ∙ says (c .before .before .before))
+returns-3 c =
+    let d = c .before .before .before in
+    (start (d .before) .pre .exact, kept _ _ _ _ _ (ap measuresSays (sym (c .before .measured2 .given .1)) ∙ says d))
 
 pub desk-measures-spec : {M : Type 1} → statement M
 desk-measures-spec =

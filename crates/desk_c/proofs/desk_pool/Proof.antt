@@ -18,7 +18,7 @@ use Rattle.desk_c.proofs.desk_pool.Tie as tie
 returns : tie.Need-returns
 returns c =
     let e = missing _ _ _ (c .before .is-place .ensures) (c .if1 .taken) in
-    (e, left-alone 1 _ e (λ z. omega arith) refl)
+    (c .before .before .before .pre .exact, (e, left-alone 1 _ e (λ z. omega arith) refl))
 
 -- the place that is asked
 abbrev start : tie.After-words-at → tie.Start
@@ -38,10 +38,10 @@ returns-2 c =
     let p = c .before .before in
     let k = p .before .before in
     let a = start k in
-    let d = deskIn (now (a .args .desk)) in (
-      fill-number d (a .args .place) (a .pre .sound) (at k) (here k) pool (now (a .args .numbers)) (p .pool .ensures .0),
-      fill-buffer d (a .args .place) (a .pre .sound) (at k) (here k) pool (now (a .args .numbers)) (p .pool .ensures .0) (p .pool .ensures .1),
-    )
+    let d = deskIn (now (a .args .desk)) in
+    let n = fill-number d (a .args .place) (a .pre .sound) (at k) (here k) pool (now (a .args .numbers)) (p .pool .ensures .0) in
+    let b = fill-buffer d (a .args .place) (a .pre .sound) (at k) (here k) pool (now (a .args .numbers)) (p .pool .ensures .0) (p .pool .ensures .1) in
+    (a .pre .exact, (n, b))
 
 pub desk-pool-spec : {M : Type 1} → statement M
 desk-pool-spec =

@@ -20,7 +20,7 @@ use Rattle.desk_c.proofs.desk_spread.Statement.{statement}
 use Rattle.desk_c.proofs.desk_spread.Tie as tie
 
 returns : tie.Need-returns
-returns c = (missing _ _ _ (c .before .is-place .ensures) (c .if1 .taken), refl)
+returns c = (c .before .before .pre .exact, (missing _ _ _ (c .before .is-place .ensures) (c .if1 .taken), refl))
 
 -- the place that is asked
 abbrev start : tie.After-words-at → tie.Start
@@ -42,15 +42,16 @@ says c =
 
 returns-2 : tie.Need-returns-2
 returns-2 c =
-    let e = rw (c .before .before .spread2 .given .1) at (says (c .before .before .before .before)) in
-    (sym (e .0), (_, e .1, refl))
+    let d = c .before .before .before .before in
+    let e = rw (c .before .before .spread2 .given .1) at (says d) in
+    (start (d .before) .pre .exact, (sym (e .0), (_, e .1, refl)))
 
 returns-3 : tie.Need-returns-3
 returns-3 c =
     let d = c .before .before .before in
     let a = start (d .before) in
     let e = rw (c .before .spread3 .given .1) at (says d) in
-    left-kept (IsSpread (tableOn (now (a .args .desk)) (a .args .place))) spreadNumbers _ _ _ (e .0) (e .1)
+    (a .pre .exact, left-kept (IsSpread (tableOn (now (a .args .desk)) (a .args .place))) spreadNumbers _ _ _ (e .0) (e .1))
 
 pub desk-spread-spec : {M : Type 1} → statement M
 desk-spread-spec =

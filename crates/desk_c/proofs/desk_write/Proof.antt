@@ -59,13 +59,13 @@ returns : tie.Need-returns
 returns c =
     let d = c .before .before .before .before .before in
     let e = accepted-is _ _ (ap writtenSays (sym (c .before .answered .given .1)) ∙ says d) in
-    (e .0, (buffer d, e .1))
+    (start (places d) .pre .exact, (e .0, (buffer d, e .1)))
 
 returns-2 : tie.Need-returns-2
 returns-2 c =
     let d = c .before .before .before .before .before in
     let e = kept _ _ _ _ _ (ap writtenSays (sym (c .before .answered2 .given .1)) ∙ says d) in
-    (e .0, (buffer d, e .1))
+    (start (places d) .pre .exact, (e .0, (buffer d, e .1)))
 
 pub desk-write-spec : {M : Type 1} → statement M
 desk-write-spec =

@@ -14,9 +14,11 @@ compare-requires c κs =
 
 returns : tie.Need-returns
 returns c =
-    let a = c .before .before .before .before .before in
-    (refl, of-both (a .args .self) (a .pre) (c .before .before .before .before .words .ensures) (c .before .before .before .words2 .ensures)
-    (λ p q. Compared p q (compareSays (c .compare .result))) (c .compare .ensures))
+    let a = c .before .before .before .before .before in (
+      refl,
+      of-both (a .args .self) (a .pre) (c .before .before .before .before .words .ensures) (c .before .before .before .words2 .ensures)
+          (λ p q. Compared p q (compareSays (c .compare .result))) (c .compare .ensures),
+    )
 
 pub compare-spec : {M : Type 1} → statement M
 compare-spec =

@@ -14,9 +14,11 @@ compare-shares-requires c κs =
 
 returns : tie.Need-returns
 returns c =
-    let a = c .before .before .before .before .before in
-    (refl, of-both (a .args .self) (a .pre) (c .before .before .before .before .words .ensures) (c .before .before .before .words2 .ensures)
-    (λ p q. ComparedByShares p q (compareSays (c .compare-shares .result))) (c .compare-shares .ensures))
+    let a = c .before .before .before .before .before in (
+      refl,
+      of-both (a .args .self) (a .pre) (c .before .before .before .before .words .ensures) (c .before .before .before .words2 .ensures)
+          (λ p q. ComparedByShares p q (compareSays (c .compare-shares .result))) (c .compare-shares .ensures),
+    )
 
 pub compare-shares-spec : {M : Type 1} → statement M
 compare-shares-spec =
