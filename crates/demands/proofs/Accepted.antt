@@ -22,11 +22,13 @@ use Rattle.pooling.specs.Claims.{RepeatsNextBetter, RepeatsBest}
 use Rattle.pooling.proofs.LeastSquares.{pooled-regression}
 use Rattle.pooling.proofs.Repeating.{next-better, best-occupied}
 use Rattle.pooling.proofs.Written.{rates-written}
+use Rattle.calls.specs.Answers.{accepted}
 use Rattle.calls.specs.Calls.{measures, questionFault, pool, fillFault}
 use Rattle.desk.specs.declared.Desk.{Desk}
 use Rattle.desk.specs.Desk.{tableAt, SoundDesk}
 use Rattle.desk.proofs.Asked.{table-sound}
-use Rattle.desk.specs.Calls.{ask, fill, write, numberOf, lentAfter, loadedTables}
+use Rattle.desk.specs.Calls.{ask, fill, write, numberOf, lentAfter, loadedTables, Returns}
+use Rattle.desk_c.proofs.Answered.{accepted-is}
 use Rattle.demands.specs.History.{nothing, table, filled}
 
 -- Pool and measures.
@@ -51,14 +53,15 @@ measured-mixed d s i e =
 
 -- Write.
 
-pub loads-back : (d : Desk) → SoundDesk d → (out : List ℕ) → writeFault (loadedTables d) (length out) ≡ 0
+pub loads-back : (d : Desk) → SoundDesk d → (out : List ℕ) (n : ℕ) → Returns d (write out) (accepted n)
     → (j : ℕ) → 1 ≤ j → j ≤ length (loadedTables d)
-    → filled nothing (take (bookSize (loadedTables d)) (lentAfter d (write out))) j ≡ table (getD (loadedTables d) (j - 1) [])
+    → filled nothing (take n (lentAfter d (write out))) j ≡ table (getD (loadedTables d) (j - 1) [])
 unfolding lengthOr
-loads-back d s out e j from to =
-    let ts = loadedTables d in
-    let r = round-trip (d .first) (d .second) (sound-loaded (s .first)) (sound-loaded (s .second)) out (bookSize ts) (rw e refl) j from to in
-    rw (r .0, r .1)
+loads-back d s out n w j from to =
+    let said = accepted-is (bookSize (loadedTables d)) (writeFault (loadedTables d) (length out)) w in
+    let e = sym (said .0) in
+    let r = round-trip (d .first) (d .second) (sound-loaded (s .first)) (sound-loaded (s .second)) out (bookSize (loadedTables d)) (rw e refl) j from to in
+    rw (said .1, r .0, r .1)
 
 pub writes-back : (b : List ℕ) → Every Byte b → layoutFault b ≡ 0 → ((j : ℕ) → 1 ≤ j → j ≤ raters b → kindAt b (startOf b j) ≡ 0)
     → (d : Desk) → loadedTables d ≡ tablesIn b 1 (raters b) → (out : List ℕ) → writeFault (loadedTables d) (length out) ≡ 0

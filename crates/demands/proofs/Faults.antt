@@ -23,7 +23,7 @@ use Rattle.desk.specs.declared.Desk.{Desk}
 use Rattle.desk.specs.Desk.{placeAt}
 use Rattle.desk.specs.Calls.{Call, ask, compare, compareShares, fill, write, shortlist, change, placeFault, numberOf}
 use Rattle.demands.specs.History.{questionNumbers, fillNumbers, changeNumbers, numbers}
-use Rattle.demands.specs.Demands.{OneOf}
+use Rattle.shortlist.specs.Claims.{Has}
 
 -- A number that is one of some, found by computation.
 
@@ -31,7 +31,7 @@ unfoldable among : List ℕ → ℕ → Bool
 among [] n = false
 among (m ∷ l) n = eqb n m || among l n
 
-one-of : (l : List ℕ) (n : ℕ) → T (among l n) → OneOf n l
+one-of : (l : List ℕ) (n : ℕ) → T (among l n) → Has n l
 unfolding among
 one-of [] n h = h
 one-of (m ∷ l) n h = either (eqb n m) (among l n) (λ e. inl (eqb→eq n m e)) (λ r. inr (one-of l n r)) h
@@ -172,7 +172,7 @@ known d (write out) = known-fault (numbers (write out)) _ tt
 known d (shortlist b out) = known-shortlist b out
 known d (change i c) = known-place (changeNumbers c) i _ (known-change (placeAt d i) c)
 
-pub answered : (d : Desk) (c : Call) → (numberOf d c ≡ 0) ⊎ OneOf (numberOf d c) (numbers c)
+pub answered : (d : Desk) (c : Call) → (numberOf d c ≡ 0) ⊎ Has (numberOf d c) (numbers c)
 answered d c = one-of (0 ∷ numbers c) (numberOf d c) (known d c)
 
 -- 5 is none of them.

@@ -2,6 +2,8 @@ pub mod History
 pub mod Faults
 pub mod Loads
 pub mod Kept
+pub mod Written
+pub mod EntryPoints
 pub mod Accepted
 pub mod Verdicts
 pub mod Shortlists

@@ -14,7 +14,6 @@ use Rattle.book.specs.Layout.{raters, startOf, kindAt, headChecks, layoutFault}
 use Rattle.book.specs.WrongCut.{WrongCut}
 use Rattle.book.specs.Rows.{tableOfRater, tablesIn}
 use Rattle.book.specs.Fall.{FallsAfter}
-use Rattle.book.specs.Encode.{bookSize}
 use Rattle.book.specs.Claims as book
 use Rattle.pooling.specs.Numbers.{ratesAtOccupied}
 use Rattle.pooling.specs.Regression.{IsRegression}
@@ -32,8 +31,11 @@ use Rattle.calls.specs.Answers.{Answer, accepted, refused}
 use Rattle.calls.specs.Calls.{Question, measures, pool, load}
 use Rattle.desk.specs.declared.Desk.{Desk}
 use Rattle.desk.specs.Desk.{placeAt, tableAt, SoundDesk}
-use Rattle.desk.specs.Calls.{Call, ask, fill, write, shortlist, change, numberOf, after, lent, lentAfter, lentSize, loadedTables, Compares, ComparesByShares}
-use Rattle.demands.specs.History.{deskAfter, nothing, table, filled, held, placed, numbers, Keeps}
+use Rattle.desk.specs.Calls.{Call, ask, fill, write, shortlist, change, numberOf, after, lent, lentAfter, lentSize, loadedTables}
+use Rattle.desk.specs.Calls.{Returns, Compares, ComparesByShares}
+use Rattle.desk_c.specs.Image.{imageOf, IsImage}
+use Rattle.demands.specs.History.{deskAfter, nothing, table, filled, held, placed, numbers, lending, Keeps}
+use Rattle.demands.specs.EntryPoints.{EveryCallIsServed}
 
 -- What calls leave.
 
@@ -56,16 +58,15 @@ AnnouncedRatesNeverFall =
     (calls : List Call) (i : ℕ) (t : Table) → held i calls ≡ table t
     → (better worse : ℕ) → better ≤ worse → worse < length t → getD t better blank .announced ≤ getD t worse blank .announced
 
--- Demand 1.
+-- What a function of the library for C requires of a desk's numbers is what calls from the fresh desk imply, and nothing more.
+abbrev pub CallsLeaveImages : Type 0
+CallsLeaveImages = (calls : List Call) → IsImage (imageOf (deskAfter calls))
 
--- n is one of some numbers.
-abbrev pub OneOf : ℕ → List ℕ → Type 0
-OneOf n [] = ⊥
-OneOf n (m ∷ l) = (n ≡ m) ⊎ OneOf n l
+-- Demand 1.
 
 -- "Every input to any entry point ends in a result or one of its refusal numbers."
 abbrev pub EveryCallIsAnswered : Type 0
-EveryCallIsAnswered = (d : Desk) (c : Call) → (numberOf d c ≡ 0) ⊎ OneOf (numberOf d c) (numbers c)
+EveryCallIsAnswered = (d : Desk) (c : Call) → (numberOf d c ≡ 0) ⊎ Has (numberOf d c) (numbers c)
 
 -- R-2, of load into an empty place: a book that is cut wrong is refused with the number of the cut, whichever of its raters is wanted;
 abbrev pub LoadTellsWrongCuts : Type 0
@@ -118,6 +119,14 @@ OnlyWhatIsWrittenChanges =
     (d : Desk) (c : Call)
     → (length (lentAfter d c) ≡ length (lent c)) × (drop (lentSize d c) (lentAfter d c) ≡ drop (lentSize d c) (lent c))
 
+-- and up to there nothing of what the buffer held: c writes the same into any other buffer, out, in which it has room.
+abbrev pub WhatIsWrittenIsGiven : Type 0
+WhatIsWrittenIsGiven =
+    (d : Desk) (c : Call) (out : List ℕ) → numberOf d c ≡ 0 → numberOf d (lending out c) ≡ 0
+    → (lentSize d c ≤ length (lent c))
+    × (lentSize d (lending out c) ≡ lentSize d c)
+    × (take (lentSize d c) (lentAfter d (lending out c)) ≡ take (lentSize d c) (lentAfter d c))
+
 -- "Load fills an empty place, clear makes a loaded one as it is on a fresh desk": the other place stays as it was.
 abbrev pub OtherPlacesAreKept : Type 0
 OtherPlacesAreKept =
@@ -129,12 +138,12 @@ OtherPlacesAreKept =
 abbrev pub BooksGoBothWays : Type 0
 BooksGoBothWays = book.ReadingIsSound × book.WrittenBookReadsBack × book.ReadBookWritesBack
 
--- "Loading rater j of a written book gives the j-th of those tables."
+-- "Loading rater j of a written book gives the j-th of those tables": of the first n bytes that an accepted write leaves, which returns n.
 abbrev pub WrittenBooksLoadBack : Type 0
 WrittenBooksLoadBack =
-    (d : Desk) → SoundDesk d → (out : List ℕ) → numberOf d (write out) ≡ 0
+    (d : Desk) → SoundDesk d → (out : List ℕ) (n : ℕ) → Returns d (write out) (accepted n)
     → (j : ℕ) → 1 ≤ j → j ≤ length (loadedTables d)
-    → filled nothing (take (bookSize (loadedTables d)) (lentAfter d (write out))) j ≡ table (getD (loadedTables d) (j - 1) [])
+    → filled nothing (take n (lentAfter d (write out))) j ≡ table (getD (loadedTables d) (j - 1) [])
 
 -- The other way: where the loaded places hold all the tables of a book whose columns are of kind 0, write leaves the bytes of that book.
 abbrev pub LoadedBooksWriteBack : Type 0
@@ -221,11 +230,11 @@ pub record IsShortlist (b l : List ℕ) : Type 0 where
   pub beaten : (i : ℕ) → Rater b i → (Has i l → ⊥) → (j : ℕ) × Has j l × Better (tableOfRater b j) (tableOfRater b i)
   pub some : 1 ≤ length l
 
--- So are the numbers that an accepted shortlist leaves in the buffer: as many as it returns.
+-- "and return how many": so are the first n numbers that an accepted shortlist leaves in the buffer, which returns n.
 abbrev pub ShortlistIsRight : Type 0
 ShortlistIsRight =
-    (d : Desk) (b out : List ℕ) → numberOf d (shortlist b out) ≡ 0
-    → IsShortlist b (take (lentSize d (shortlist b out)) (lentAfter d (shortlist b out)))
+    (d : Desk) (b out : List ℕ) (n : ℕ) → Returns d (shortlist b out) (accepted n)
+    → (n ≤ length out) × IsShortlist b (take n (lentAfter d (shortlist b out)))
 
 -- The shortlist is of a book and a buffer alone: every desk answers it alike.
 abbrev pub ShortlistNeedsNoDesk : Type 0
@@ -265,6 +274,8 @@ pub record Demands : Type 0 where
   pub places-hold-what-was-loaded : PlacesHoldWhatWasLoaded
   pub every-held-table-is-sound : EveryHeldTableIsSound
   pub announced-rates-never-fall : AnnouncedRatesNeverFall
+  pub calls-leave-images : CallsLeaveImages
+  pub every-call-is-served : EveryCallIsServed
   pub every-call-is-answered : EveryCallIsAnswered
   pub load-tells-wrong-cuts : LoadTellsWrongCuts
   pub load-means-wrong-cuts : LoadMeansWrongCuts
@@ -276,6 +287,7 @@ pub record Demands : Type 0 where
   pub questions-are-of-tables : QuestionsAreOfTables
   pub refusals-change-nothing : RefusalsChangeNothing
   pub only-what-is-written-changes : OnlyWhatIsWrittenChanges
+  pub what-is-written-is-given : WhatIsWrittenIsGiven
   pub other-places-are-kept : OtherPlacesAreKept
   pub books-go-both-ways : BooksGoBothWays
   pub written-books-load-back : WrittenBooksLoadBack

@@ -48,6 +48,16 @@ numbers (write out) = 22 ∷ 13 ∷ []
 numbers (shortlist book out) = 2 ∷ 3 ∷ 31 ∷ 32 ∷ 6 ∷ 7 ∷ 33 ∷ 8 ∷ 10 ∷ 34 ∷ 9 ∷ 11 ∷ 23 ∷ 24 ∷ 25 ∷ 13 ∷ []
 numbers (change i c) = 1 ∷ changeNumbers c
 
+-- the call with another buffer lent
+abbrev pub lending : List ℕ → Call → Call
+lending new (ask i q) = ask i q
+lending new compare = compare
+lending new compareShares = compareShares
+lending new (fill i f out) = fill i f new
+lending new (write out) = write new
+lending new (shortlist book out) = shortlist book new
+lending new (change i c) = change i c
+
 -- The call does not change place i.
 abbrev pub Keeps : ℕ → Call → Type 0
 Keeps i (ask k q) = Unit {0}

@@ -1,3 +1,4 @@
 pub mod History
 pub mod Demands
 pub mod Worked
+pub mod EntryPoints

@@ -10,10 +10,14 @@ use Rattle.shares.proofs.Weights.{multiples-equal, multiples-as-good}
 use Rattle.shares.proofs.Settled.{multiples-one-verdict}
 use Rattle.measures.proofs.Claimed as measures
 use Rattle.desk.proofs.Asked.{asked-sound}
+use Rattle.desk_c.proofs.Images.{is-image}
+use Rattle.demands.specs.History.{deskAfter}
 use Rattle.demands.proofs.History.{places-hold, tables-sound, rates-never-fall, desk-sound}
 use Rattle.demands.proofs.Faults.{answered, never-five}
 use Rattle.demands.proofs.Loads.{load-tells, load-means, load-takes, load-means-empty, load-tells-fall, load-means-fall}
 use Rattle.demands.proofs.Kept.{refused-kept, written-only, others-kept}
+use Rattle.demands.proofs.Written.{written-given}
+use Rattle.demands.proofs.EntryPoints.{served}
 use Rattle.demands.proofs.Accepted.{regression-written, repeats-written, measured-mixed, loads-back, writes-back}
 use Rattle.demands.proofs.Verdicts.{compare-right, shares-right, agree}
 use Rattle.demands.proofs.Shortlists.{shortlist-right, raters-compared}
@@ -26,6 +30,8 @@ returns c = record {
   places-hold-what-was-loaded = places-hold;
   every-held-table-is-sound = tables-sound;
   announced-rates-never-fall = rates-never-fall;
+  calls-leave-images = λ calls. is-image (deskAfter calls) (desk-sound calls);
+  every-call-is-served = served;
   every-call-is-answered = answered;
   load-tells-wrong-cuts = load-tells;
   load-means-wrong-cuts = load-means;
@@ -37,6 +43,7 @@ returns c = record {
   questions-are-of-tables = asked-sound;
   refusals-change-nothing = refused-kept;
   only-what-is-written-changes = written-only;
+  what-is-written-is-given = written-given;
   other-places-are-kept = others-kept;
   books-go-both-ways = (reading.accepted, round-trip, written-again);
   written-books-load-back = loads-back;
