@@ -35,7 +35,7 @@ use Rattle.desk.specs.Calls.{Call, ask, fill, write, shortlist, change, numberO
 use Rattle.desk.specs.Calls.{Returns, Compares, ComparesByShares}
 use Rattle.desk_c.specs.Image.{imageOf, IsImage}
 use Rattle.demands.specs.History.{deskAfter, nothing, table, filled, held, placed, numbers, lending, Keeps}
-use Rattle.demands.specs.EntryPoints.{EveryCallIsServed}
+use Rattle.demands.specs.EntryPoints.{ServedInC, ServedByDesk}
 
 -- What calls leave.
 
@@ -63,6 +63,10 @@ abbrev pub CallsLeaveImages : Type 0
 CallsLeaveImages = (calls : List Call) → IsImage (imageOf (deskAfter calls))
 
 -- Demand 1.
+
+-- No call of the model is without its entry points, in the library for C and of the desk, nor do their contracts say anything else of it.
+abbrev pub EveryCallIsServed : Type 0
+EveryCallIsServed = (c : Call) → ServedInC c × ServedByDesk c
 
 -- "Every input to any entry point ends in a result or one of its refusal numbers."
 abbrev pub EveryCallIsAnswered : Type 0

@@ -99,7 +99,7 @@ fn shortlist_into(book: &mut [u8], lent: &mut [u32]) -> bool {
     if io::read_full(STDIN_FILENO, book) < book.len() {
         return false;
     }
-    let listed = shortlist::shortlist(book, lent);
+    let listed = desk::shortlist(book, lent);
     answers::shortlist(listed, lent);
     true
 }

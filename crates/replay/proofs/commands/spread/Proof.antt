@@ -18,7 +18,7 @@ printable n t (Spread s) h =
 printable n t (Refused m) h = tt
 
 spread-requires-2 : tie.Need-spread-requires-2
-spread-requires-2 c κs = printable _ _ (c .spread .result) (c .spread .ensures)
+spread-requires-2 c κs = printable _ _ (c .spread .result) (c .spread .ensures .1)
 
 pub spread-spec : {M : Type 1} → statement M
 spread-spec = tie.close (tie.spec (λ c κs. search needs) spread-requires-2 (λ c. search needs))
