@@ -1,4 +1,5 @@
 pub mod History
+pub mod EntryPoints
 pub mod Demands
 pub mod Worked
-pub mod EntryPoints
+pub mod Orders
