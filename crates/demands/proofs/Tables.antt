@@ -5,7 +5,6 @@ use mathlib.Core.Bool.{Bool, true, false}
 use mathlib.Core.List.{[], _∷_}
 use native.Mathlib.Omega.{arith}
 use lib.Dec.{lit<, lit≤}
-use lib.Seq.{sets}
 use Rattle.table.specs.Table.{Table, Every, Counted, Mixed, occupied, survivorsIn, defaultsIn, obligorsIn}
 use Rattle.table.specs.Place.{gradesFrom, tableOf, placeOf}
 use Rattle.table.proofs.Placed.{table-placed}
@@ -42,8 +41,8 @@ use Rattle.calls.specs.Shares.{sharesFault, sharesChecks}
 use Rattle.desk.specs.Calls.{change, numberOf}
 use Rattle.demands.specs.History.{deskFrom, deskAfter, heldFrom, held, table}
 use Rattle.demands.specs.Worked as worked
-use Rattle.demands.specs.Worked.{row, announcing, nobodys, bookK, tableK, empty, bookOf, swappedK, five, fine, coarse, worstApart, bestApart, price, Between}
-use Rattle.demands.specs.Worked.{oneGrade, coarseAndFine, noDefault, noSurvivor, otherDefaults, otherSurvivors}
+use Rattle.demands.specs.Worked.{row, bookK, tableK, empty, bookOf, swappedK, five, fine, coarse, worstApart, bestApart, price, Between}
+use Rattle.demands.specs.Worked.{oneGrade, coarseAndFine, otherDefaults, otherSurvivors}
 use Rattle.demands.specs.Worked.{coarseTwice, bestApartTwice, manySurvived, manyDefaulted, OnShares}
 
 -- Books, as they stand in the bytes: K, those of R-4's case line, and K with two rates swapped.
@@ -55,7 +54,7 @@ read :
 unfolding deskFrom heldFrom changeFault readFault headChecks raterChecks tableChecks tablesFaultFrom gradeIn gradesIn rowChecks laterChecks laterFault rowsFault totalChecks tableFault fault firstFault twoAt fourAt twoBytes fourBytes obligorsIn occupied
 read = (refl, refl, refl, refl)
 
--- R-7: lists of raters, a book of two, and the checks of totals.
+-- R-7: lists of raters, a book of two, and totals that differ.
 lists :
     (listed (five ∷ []) ≡ 1 ∷ [])
     × (listed (coarse ∷ coarse ∷ coarse ∷ []) ≡ 1 ∷ 2 ∷ 3 ∷ [])
@@ -71,24 +70,15 @@ listing-book :
     (listing.bufferAfter coarseAndFine (7 ∷ 8 ∷ 9 ∷ []) ≡ 2 ∷ 8 ∷ 9 ∷ [])
     × (shortlistFault coarseAndFine 2 ≡ 0)
     × (shortlistFault coarseAndFine 1 ≡ 13)
-    × (shortlistFault (sets swappedK 6 (2 ∷ [])) 1 ≡ 33)
     × (shortlistFault swappedK 1 ≡ 34)
-    × (shortlistFault (bookOf 0 0) 1 ≡ 9)
-    × (shortlistFault (bookOf 5 0) 0 ≡ 23)
 unfolding shortlistFault listing.bufferOr bookFault layoutFault tableFaults someChecks equalChecks sameChecks encode encodeTables encodeTable encodeGrades encodeGrade offsets endsAt tablesIn headChecks tableChecks tablesFaultFrom gradeIn gradesIn rowChecks laterChecks laterFault rowsFault totalChecks tableFault fault firstFault twoAt fourAt twoBytes fourBytes obligorsIn occupied listed shortlist.numbersOf unbeaten all cheapestOf best cost turnedAway pool front defaultsIn survivorsIn
-listing-book = (refl, refl, refl, refl, refl, refl, refl)
-
-in-order : tableFaults ((announcing 1_000_000 4 ∷ announcing 1 4 ∷ []) ∷ (nobodys ∷ []) ∷ []) ≡ 11
-unfolding tableFaults rowChecks laterChecks laterFault rowsFault totalChecks tableFault fault firstFault obligorsIn occupied
-in-order = refl
+listing-book = (refl, refl, refl, refl)
 
 totals :
-    (totalsFault (coarse ∷ noSurvivor ∷ noDefault ∷ []) ≡ 23)
-    × (totalsFault (coarse ∷ otherDefaults ∷ noSurvivor ∷ []) ≡ 24)
-    × (totalsFault (coarse ∷ coarse ∷ otherDefaults ∷ []) ≡ 25)
+    (totalsFault (coarse ∷ coarse ∷ otherDefaults ∷ []) ≡ 25)
     × (totalsFault (otherSurvivors ∷ coarse ∷ coarse ∷ []) ≡ 25)
 unfolding someChecks equalChecks sameChecks fault firstFault defaultsIn survivorsIn
-totals = (refl, refl, refl, refl)
+totals = (refl, refl)
 
 -- Verdicts.
 
@@ -206,11 +196,6 @@ Worked = record {
   r5-last = refl;
   r5-empty = refl;
   r5-behind-empty = refl;
-  r5-same-row = refl;
-  r5-ten = refl;
-  r5-later-row = refl;
-  r5-nine = refl;
-  r5-eleven = refl;
   r6-equal = kind refl (kind-by-shares coarse coarseTwice);
   r6-equal-shown = allowed-shares coarse coarseTwice refl _ record {
     first = refl;
@@ -252,8 +237,6 @@ Worked = record {
   r6-most = refl;
   r6-first-larger = refl;
   r6-second-larger = refl;
-  r6-after-24 = (refl, refl);
-  r6-after-23 = (refl, refl);
   r7-one = lists .0;
   r7-equal = lists .1;
   r7-chain = (lists .2, lists .3);
@@ -261,11 +244,6 @@ Worked = record {
   r7-crossing = (lists .5, lists .6);
   r7-buffer = listing-book .0;
   r7-room = (listing-book .1, listing-book .2);
-  r7-layout-first = listing-book .3;
-  r7-rows-next = (listing-book .4, listing-book .5);
-  r7-totals-next = listing-book .6;
-  r7-in-order = in-order;
-  r7-23-first = totals .0;
-  r7-24-first = totals .1;
-  r7-25 = (totals .2, totals .3);
+  r7-swapped = listing-book .3;
+  r7-25 = totals;
 }

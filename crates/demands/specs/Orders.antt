@@ -15,7 +15,7 @@ use Rattle.calls.specs.Calls.{cheapest, measures, brier, spread, pool, load, cl
 use Rattle.desk.specs.declared.Desk.{Desk}
 use Rattle.desk.specs.Desk.{freshDesk}
 use Rattle.desk.specs.Calls.{ask, compare, compareShares, fill, write, shortlist, change, numberOf}
-use Rattle.demands.specs.Worked.{row, announcing, nobodys, empty, bookK, swappedK, coarse, noDefault, noSurvivor, otherDefaults, otherSurvivors}
+use Rattle.demands.specs.Worked.{row, announcing, empty, bookK, swappedK, coarse, otherDefaults, otherSurvivors}
 
 -- Desks: a table in the first place, in the second, in both. Of a number that is no place's, the second place is asked.
 
@@ -37,14 +37,23 @@ full = inBoth coarse coarse
 abbrev pub above : ℕ
 above = 1_000_001
 
--- a grade with a default of nobody that announces a rate above 1,000,000, and one with more defaults than its many obligors
+-- grades with more defaults than obligors: a default of nobody, the same with a rate above 1,000,000, and too many obligors
+abbrev pub nobodys : Grade
+nobodys = record { obligors = 0; defaults = 1; announced = 4 }
+
 abbrev pub nobodysAbove : Grade
 nobodysAbove = record { obligors = 0; defaults = 1; announced = above }
 
 abbrev pub manyDefaults : Grade
 manyDefaults = record { obligors = above; defaults = 1_000_002; announced = 4 }
 
--- a table without a survivor whose D is not that of `coarse`, as that of `noSurvivor` is
+-- tables without a default, without a survivor but with the D of `coarse`, and with another one
+abbrev pub noDefault : Table
+noDefault = row 6 0 ∷ []
+
+abbrev pub noSurvivor : Table
+noSurvivor = row 3 3 ∷ []
+
 abbrev pub twoDefaulted : Table
 twoDefaulted = row 2 2 ∷ []
 

@@ -7,9 +7,7 @@ use lib.Seq.{sets}
 use Rattle.table.specs.Table.{Table, Grade}
 use Rattle.table.specs.Place.{placeOf}
 use Rattle.book.specs.Bytes.{fourBytes}
-use Rattle.book.specs.Checks.{fault}
-use Rattle.book.specs.Rows.{laterChecks, tableFault}
-use Rattle.book.specs.Reading.{tableFaults}
+use Rattle.book.specs.Rows.{tableFault}
 use Rattle.book.specs.Encode.{encode}
 use Rattle.pooling.specs.Fraction.{ratio}
 use Rattle.pooling.specs.Pool.{pooledScale}
@@ -67,12 +65,9 @@ bookOf n d =
 abbrev pub swappedK : List ℕ
 swappedK = sets (sets bookK 18 (fourBytes 150_000)) 30 (fourBytes 100_000)
 
--- a grade of n obligors that announces the rate p, and one with a default of nobody, which announces 4
+-- a grade of n obligors that announces the rate p
 abbrev pub announcing : ℕ → ℕ → Grade
 announcing n p = record { obligors = n; defaults = 0; announced = p }
-
-abbrev pub nobodys : Grade
-nobodys = record { obligors = 0; defaults = 1; announced = 4 }
 
 -- the table of document 002
 abbrev pub five : Table
@@ -135,13 +130,7 @@ oneGrade = row 6 3 ∷ []
 abbrev pub coarseAndFine : List ℕ
 coarseAndFine = encode (coarse ∷ fine ∷ [])
 
--- tables without a default, without a survivor, and with other totals than `coarse`: in D, in S
-abbrev pub noDefault : Table
-noDefault = row 6 0 ∷ []
-
-abbrev pub noSurvivor : Table
-noSurvivor = row 3 3 ∷ []
-
+-- tables with other totals than `coarse`: in D, in S
 abbrev pub otherDefaults : Table
 otherDefaults = row 7 4 ∷ []
 
@@ -208,13 +197,6 @@ pub record Worked : Type 0 where
   pub r5-last : tableFault (announcing 9 5 ∷ announcing 9 7 ∷ announcing 9 6 ∷ []) ≡ 34
   pub r5-empty : tableFault (announcing 9 5 ∷ announcing 0 4 ∷ announcing 9 5 ∷ []) ≡ 34
   pub r5-behind-empty : tableFault (announcing 9 5 ∷ announcing 0 7 ∷ announcing 9 6 ∷ []) ≡ 34
-  -- "Tested in each row after 10": 8 in the same row is the answer, and 10 would be, if a rate that has it could be below one that has not; 8 in a
-  -- later row is not, nor are 9 and 11, which come behind all rows
-  pub r5-same-row : tableFault (announcing 9 5 ∷ nobodys ∷ []) ≡ 8
-  pub r5-ten : fault (laterChecks 1_000_002 (announcing 9 1_000_001)) ≡ 10
-  pub r5-later-row : tableFault (announcing 9 5 ∷ announcing 9 4 ∷ nobodys ∷ []) ≡ 34
-  pub r5-nine : tableFault (announcing 0 5 ∷ announcing 0 4 ∷ []) ≡ 34
-  pub r5-eleven : tableFault (announcing 1_000_000 5 ∷ announcing 1 4 ∷ []) ≡ 34
   -- R-6: a scale and the same twice over are Equal, where compare refuses with 25; g and h against the scale twice over: First, and Crossing as the
   -- same two pairs of prices show
   pub r6-equal : (r : Answer Verdict) → OnShares coarse coarseTwice r → r ≡ accepted Equal
@@ -235,14 +217,10 @@ pub record Worked : Type 0 where
   pub r6-high-turned-away : (q : Price) → OnShares worstApart bestApartTwice (accepted (Crossing (price 1 2_500_000_001) q)) → ⊥
   -- what these cost at the second pair: 1 times 2/3, two of three defaults missed; 1 times 6/6, all defaults missed, or 3 times 2/6
   pub r6-costs : IsCheapestShare worstApart 1 3 (ratio 6 9) × IsCheapestShare bestApartTwice 1 3 (ratio 36 36)
-  -- "It takes tables of at most 100,000 obligors"; a larger one is 35 in either place, "after 24"
+  -- "It takes tables of at most 100,000 obligors"; a larger one is 35 in either place
   pub r6-most : sharesFault (placeOf (row 100_000 1 ∷ [])) (placeOf (row 100_000 1 ∷ [])) ≡ 0
   pub r6-first-larger : sharesFault (placeOf (row 100_001 1 ∷ [])) (placeOf coarse) ≡ 35
   pub r6-second-larger : sharesFault (placeOf coarse) (placeOf (row 100_001 1 ∷ [])) ≡ 35
-  pub r6-after-24 : (sharesFault (placeOf (row 100_001 1 ∷ [])) (placeOf (row 2 2 ∷ [])) ≡ 24)
-      × (sharesFault (placeOf (row 2 2 ∷ [])) (placeOf (row 100_001 1 ∷ [])) ≡ 24)
-  pub r6-after-23 : (sharesFault (placeOf (row 100_001 1 ∷ [])) (placeOf (row 2 0 ∷ [])) ≡ 23)
-      × (sharesFault (placeOf (row 2 0 ∷ [])) (placeOf (row 100_001 1 ∷ [])) ≡ 23)
   -- R-7: one rater; all equal; a chain, from either end; two equal best; crossing ones, which also beat one grade
   pub r7-one : listed (five ∷ []) ≡ 1 ∷ []
   pub r7-equal : listed (coarse ∷ coarse ∷ coarse ∷ []) ≡ 1 ∷ 2 ∷ 3 ∷ []
@@ -252,14 +230,7 @@ pub record Worked : Type 0 where
   -- "into a lent buffer whose further numbers are kept"; "13 for a buffer shorter than R", even where fewer are listed
   pub r7-buffer : listing.bufferAfter coarseAndFine (7 ∷ 8 ∷ 9 ∷ []) ≡ 2 ∷ 8 ∷ 9 ∷ []
   pub r7-room : (shortlistFault coarseAndFine 2 ≡ 0) × (shortlistFault coarseAndFine 1 ≡ 13)
-  -- "The layout of the whole book is checked first": K with swapped rates, of which one grade less is told, is 33; then its rows, 34; the rows and 9
-  -- before 23, and 23 before 13
-  pub r7-layout-first : shortlistFault (sets swappedK 6 (2 ∷ [])) 1 ≡ 33
-  pub r7-rows-next : (shortlistFault swappedK 1 ≡ 34) × (shortlistFault (bookOf 0 0) 1 ≡ 9)
-  pub r7-totals-next : shortlistFault (bookOf 5 0) 0 ≡ 23
-  -- "the row checks, 9 and 11 of each rater in book order": 11 of the first before 8 of the second
-  pub r7-in-order : tableFaults ((announcing 1_000_000 4 ∷ announcing 1 4 ∷ []) ∷ (nobodys ∷ []) ∷ []) ≡ 11
-  -- "Then 23 is tested over all raters, then 24 over all, then 25 between any two"
-  pub r7-23-first : totalsFault (coarse ∷ noSurvivor ∷ noDefault ∷ []) ≡ 23
-  pub r7-24-first : totalsFault (coarse ∷ otherDefaults ∷ noSurvivor ∷ []) ≡ 24
+  -- the rows are checked as in load: K with two rates swapped
+  pub r7-swapped : shortlistFault swappedK 1 ≡ 34
+  -- "25 between any two": of D, of S
   pub r7-25 : (totalsFault (coarse ∷ coarse ∷ otherDefaults ∷ []) ≡ 25) × (totalsFault (otherSurvivors ∷ coarse ∷ coarse ∷ []) ≡ 25)
