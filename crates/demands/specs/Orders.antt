@@ -1,6 +1,6 @@
 -- In which order the checks of each call stand: for any two that stand next to each other and that one input can fail together, a row with such an
--- input and the number of the earlier one. Checks that no input fails together are passed over, so that such a one may stand between the two of a row.
--- A number that is given at several points has a row for each point.
+-- input and the number of the earlier one. Checks that no input fails together are passed over: such a one may stand between the two of a row.
+-- A number that is given at several points has a row for each point. Bytes behind the end of a book read as 0.
 use Prim.Native.Nat.{ℕ}
 use mathlib.Core.Path.{_≡_}
 use mathlib.Core.List.{List, [], _∷_, _++_}
@@ -90,7 +90,7 @@ headed grades kind next = 1 ∷ 0 ∷ 10 ∷ 0 ∷ 6 ∷ 0 ∷ grades ∷ kind �
 abbrev pub elsewhere : ℕ → ℕ → List ℕ
 elsewhere grades kind = 2 ∷ 0 ∷ 12 ∷ 0 ∷ 8 ∷ 0 ∷ 0 ∷ 0 ∷ grades ∷ kind ∷ 0 ∷ 0 ∷ []
 
--- book K with another byte
+-- book K with another byte: 2 is the stated length, 4 the offset, 6 the grade count, 7 the kind
 abbrev pub patchedK : ℕ → ℕ → List ℕ
 patchedK at byte = sets bookK at (byte ∷ [])
 
@@ -235,11 +235,13 @@ pub record Orders : Type 0 where
   pub shortlist-3-before-33 : numberOf freshDesk (shortlist (start 0 5 ++ 0 ∷ []) room) ≡ 3
   pub shortlist-3-before-31-many : numberOf freshDesk (shortlist (seventeen 38) room) ≡ 3
   pub shortlist-3-before-31-offsets : numberOf freshDesk (shortlist (start 1 4) room) ≡ 3
-  -- "Then come the row checks, 9 and 11 of each rater in book order. Then 23 is tested over all raters"
+  -- "Then come the row checks, 9 and 11 of each rater in book order. Then 23 is tested over all raters": not before the next rater's turn
   pub shortlist-9-before-next-8 : listing ((empty ∷ []) ∷ (nobodys ∷ []) ∷ []) room ≡ 9
   pub shortlist-11-before-next-8 : listing ((announcing above 4 ∷ []) ∷ (nobodys ∷ []) ∷ []) room ≡ 11
   pub shortlist-9-before-23-and-24 : listing ((empty ∷ []) ∷ []) room ≡ 9
   pub shortlist-11-before-23 : listing ((announcing above 4 ∷ []) ∷ []) room ≡ 11
+  pub shortlist-9-before-23-of-an-earlier : listing (noDefault ∷ (empty ∷ []) ∷ []) room ≡ 9
+  pub shortlist-11-before-23-of-an-earlier : listing (noDefault ∷ (announcing above 4 ∷ []) ∷ []) room ≡ 11
   pub shortlist-11-before-24 : listing ((row above above ∷ []) ∷ []) room ≡ 11
   -- "then 24 over all, then 25 between any two": whichever rater stands first; 24 of the last before 25 of the first two
   pub shortlist-23-before-24 : listing (noDefault ∷ noSurvivor ∷ []) room ≡ 23
@@ -247,7 +249,8 @@ pub record Orders : Type 0 where
   pub shortlist-23-before-25 : listing (coarse ∷ noDefault ∷ []) room ≡ 23
   pub shortlist-24-before-25-defaults : listing (coarse ∷ twoDefaulted ∷ []) room ≡ 24
   pub shortlist-24-before-25-survivors : listing (coarse ∷ noSurvivor ∷ []) room ≡ 24
-  pub shortlist-24-before-25-of-earlier : listing (coarse ∷ otherDefaults ∷ noSurvivor ∷ []) room ≡ 24
+  pub shortlist-24-before-25-defaults-of-earlier : listing (coarse ∷ otherDefaults ∷ noSurvivor ∷ []) room ≡ 24
+  pub shortlist-24-before-25-survivors-of-earlier : listing (coarse ∷ otherSurvivors ∷ noSurvivor ∷ []) room ≡ 24
   -- "then 13 for a buffer shorter than R"
   pub shortlist-23-before-13 : listing (noDefault ∷ []) [] ≡ 23
   pub shortlist-24-before-13 : listing (noSurvivor ∷ []) [] ≡ 24
