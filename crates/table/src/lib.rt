@@ -1,8 +1,8 @@
 // A grade table in a place of the desk, its counts and its totals.
-ghost use Prim.Native.Nat.{_+_, _-_, _≤_};
+ghost use Prim.Native.Nat.{_+_, _-_, _≤_, _<_};
 ghost use mathlib.Core.Path.{_≡_};
 ghost use mathlib.Core.Bool.{cond};
-ghost use lib.ListN.{length};
+ghost use lib.ListN.{length, getD};
 ghost use lib.Seq.{paste};
 ghost use Rattle.table.specs.Place.{fresh, SoundPlace};
 ghost use Rattle.table.specs.Words.{placeSize, wordsOf, columnIn, placeIn, tableIn, HoldsTable};
@@ -109,6 +109,22 @@ pub fn wide(n: u32) -> usize
     ensures { λ r. ⌜ r ≡ n ⌝ }
 {
     n as usize
+}
+
+// A count of obligors out of lent words. A count becomes one of its kind here and in `survivors_at`, where the words are lent, and nowhere else.
+pub fn obligors_at(words: &[u32], at: usize) -> Obligors
+    requires { ⌜ at < length (now words) ⌝ }
+    ensures { λ r. ⌜ r .0 ≡ getD (now (words .entry)) at 0 ⌝ }
+{
+    Obligors(words[at])
+}
+
+// A count of survivors out of lent words.
+pub fn survivors_at(words: &[u32], at: usize) -> Survivors
+    requires { ⌜ at < length (now words) ⌝ }
+    ensures { λ r. ⌜ r .0 ≡ getD (now (words .entry)) at 0 ⌝ }
+{
+    Survivors(words[at])
 }
 
 // The grade count of a lent place.
