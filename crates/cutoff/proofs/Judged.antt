@@ -35,10 +35,10 @@ use Rattle.cutoff.proofs.Settled.{never-dearer}
 -- At the prices p, counted in both scales' weights, t₁ costs more than t₂, each in its own.
 pub record DearerInWeights (w₁ w₂ : Weights) (t₁ t₂ : Table) (p : Price) : Type 0 where
   pub missed : p .u ≤ survivorsIn t₁ * w₂ .defaults
-  pub turned-away : p .v ≤ defaultsIn t₁ * w₂ .survivors
+  pub turned-away : p .v ≤ defaultsIn t₁ * w₂ .survivors .0
   pub more : (c₁ c₂ : ℕ)
-      → IsCheapest (inWeights w₁ t₁) (p .u * (w₁ .survivors * w₂ .survivors)) (p .v * (w₁ .defaults * w₂ .defaults)) c₁
-      → IsCheapest (inWeights w₂ t₂) (p .u * (w₁ .survivors * w₂ .survivors)) (p .v * (w₁ .defaults * w₂ .defaults)) c₂
+      → IsCheapest (inWeights w₁ t₁) (p .u * (w₁ .survivors .0 * w₂ .survivors .0)) (p .v * (w₁ .defaults * w₂ .defaults)) c₁
+      → IsCheapest (inWeights w₂ t₂) (p .u * (w₁ .survivors .0 * w₂ .survivors .0)) (p .v * (w₁ .defaults * w₂ .defaults)) c₂
       → c₂ < c₁
 
 -- What a verdict on two tables in weights may be: its kind is given, its pairs are limited.
@@ -69,21 +69,21 @@ module _ (t : Table) (w : List ℕ) (e : w ≡ blockWords (spanning t)) where
 module _ (w : Weights) (t : Table) (counted : Every Counted t) where
   pooled-defaults : defaultsIn (inWeights w (pooledScale t)) ≡ defaultsIn (inWeights w t)
   pooled-defaults =
-      weighted-defaults (w .defaults) (w .survivors) (pooledScale t)
+      weighted-defaults (w .defaults) (w .survivors .0) (pooledScale t)
       ∙ ap (λ n. w .defaults * n) (pooled-totals t counted .1)
-      ∙ sym (weighted-defaults (w .defaults) (w .survivors) t)
+      ∙ sym (weighted-defaults (w .defaults) (w .survivors .0) t)
 
   pooled-survivors : survivorsIn (inWeights w (pooledScale t)) ≡ survivorsIn (inWeights w t)
   pooled-survivors =
-      weighted-survivors (w .defaults) (w .survivors) (pooledScale t)
-      ∙ ap (λ n. w .survivors * n) (pool-alike t counted .same-survivors)
-      ∙ sym (weighted-survivors (w .defaults) (w .survivors) t)
+      weighted-survivors (w .defaults) (w .survivors .0) (pooledScale t)
+      ∙ ap (λ n. w .survivors .0 * n) (pool-alike t counted .same-survivors)
+      ∙ sym (weighted-survivors (w .defaults) (w .survivors .0) t)
 
   pooled-cost : (u v : ℕ) → cheapestCost (inWeights w (pooledScale t)) u v ≡ cheapestCost (inWeights w t) u v
   pooled-cost u v =
-      weighted-cost (w .defaults) (w .survivors) (pooledScale t) u v
-      ∙ pool-alike t counted .same-cost (u * w .defaults) (v * w .survivors)
-      ∙ sym (weighted-cost (w .defaults) (w .survivors) t u v)
+      weighted-cost (w .defaults) (w .survivors .0) (pooledScale t) u v
+      ∙ pool-alike t counted .same-cost (u * w .defaults) (v * w .survivors .0)
+      ∙ sym (weighted-cost (w .defaults) (w .survivors .0) t u v)
 
 pub pooled-matched : (w₁ w₂ : Weights) (t₁ t₂ : Table) → Every Counted t₁ → Every Counted t₂ → Matched (inWeights w₁ t₁) (inWeights w₂ t₂)
     → Matched (inWeights w₁ (pooledScale t₁)) (inWeights w₂ (pooledScale t₂))
@@ -117,16 +117,16 @@ told-at false P p h f = record { called = refl; pair = λ q e. let x : p ≡ q =
 -- It says so of the tables if it finds so in their pooled scales.
 module _ (w₁ w₂ : Weights) (t₁ t₂ : Table) (counted₁ : Every Counted t₁) (counted₂ : Every Counted t₂) where
   -- Block b is found: the prices are its break-even prices times the other scale's two weights.
-  dearer-pooled : 1 ≤ w₂ .defaults → 1 ≤ w₂ .survivors → (b : Block) → DearerAtBlock w₁ w₂ (pooledScale t₁) (pooledScale t₂) b
+  dearer-pooled : 1 ≤ w₂ .defaults → 1 ≤ w₂ .survivors .0 → (b : Block) → DearerAtBlock w₁ w₂ (pooledScale t₁) (pooledScale t₂) b
       → DearerInWeights w₁ w₂ t₁ t₂ (priceIn w₂ b)
   dearer-pooled pos-d pos-s b f =
-      let u : ℕ = w₁ .survivors * survivors (asGrade b) in
+      let u : ℕ = w₁ .survivors .0 * survivors (asGrade b) in
       let v : ℕ = w₁ .defaults * b .defaults in
-      let k : ℕ = w₂ .defaults * w₂ .survivors in
+      let k : ℕ = w₂ .defaults * w₂ .survivors .0 in
       let d : b .defaults ≤ defaultsIn t₁ = omega (arith, f .few-defaults, pooled-totals t₁ counted₁ .1) in
       let s : survivors (asGrade b) ≤ survivorsIn t₁ = omega (arith, f .few-survivors, pool-alike t₁ counted₁ .same-survivors) in
-      let m : survivors (asGrade b) * w₂ .defaults * (w₁ .survivors * w₂ .survivors) ≡ k * u = omega arith in
-      let n : b .defaults * w₂ .survivors * (w₁ .defaults * w₂ .defaults) ≡ k * v = omega arith in
+      let m : survivors (asGrade b) * w₂ .defaults * (w₁ .survivors .0 * w₂ .survivors .0) ≡ k * u = omega arith in
+      let n : b .defaults * w₂ .survivors .0 * (w₁ .defaults * w₂ .defaults) ≡ k * v = omega arith in
       let lt : cheapestCost (inWeights w₂ t₂) u v < cheapestCost (inWeights w₁ t₁) u v =
       omega (
         arith,
@@ -137,21 +137,21 @@ module _ (w₁ w₂ : Weights) (t₁ t₂ : Table) (counted₁ : Every Counted t
       ) in
       record {
         missed = mul-le-mul-right (w₂ .defaults) s;
-        turned-away = mul-le-mul-right (w₂ .survivors) d;
+        turned-away = mul-le-mul-right (w₂ .survivors .0) d;
         more = rw (m, n)
             (dearer (k * u) (k * v) (inWeights w₁ t₁) (inWeights w₂ t₂)
             (rw (cost-times k (inWeights w₁ t₁) u v, cost-times k (inWeights w₂ t₂) u v) (mul-lt-mul-of-pos-left lt (mul-pos pos-d pos-s))));
       }
 
-  module _ (pos-d : 1 ≤ w₁ .defaults) (pos-s : 1 ≤ w₁ .survivors) (same : survivorsIn (inWeights w₁ t₁) ≡ survivorsIn (inWeights w₂ t₂)) where
+  module _ (pos-d : 1 ≤ w₁ .defaults) (pos-s : 1 ≤ w₁ .survivors .0) (same : survivorsIn (inWeights w₁ t₁) ≡ survivorsIn (inWeights w₂ t₂)) where
     -- No block is found.
     never : Every (λ b. NoDearer (survivors b) (b .defaults) (inWeights w₁ (pooledScale t₁)) (inWeights w₂ (pooledScale t₂))) (inWeights w₁ (pooledScale t₁))
         → T (neverDearer (inWeights w₁ t₁) (inWeights w₂ t₂))
     never f =
-        let counted = weighted-counted (w₁ .defaults) (w₁ .survivors) t₁ in
+        let counted = weighted-counted (w₁ .defaults) (w₁ .survivors .0) t₁ in
         never-dearer (inWeights w₁ t₁) (inWeights w₂ t₂) counted same .1
         (break-even-decides (inWeights w₁ t₁) (inWeights w₂ t₂) counted same .1
-        (rw (pooled-weighted (w₁ .defaults) (w₁ .survivors) pos-d pos-s t₁ counted₁)
+        (rw (pooled-weighted (w₁ .defaults) (w₁ .survivors .0) pos-d pos-s t₁ counted₁)
         (every-map
         (λ b h. no-dearer (survivors b) (b .defaults) (inWeights w₁ t₁) (inWeights w₂ t₂) .1
         (omega (
@@ -165,14 +165,14 @@ module _ (w₁ w₂ : Weights) (t₁ t₂ : Table) (counted₁ : Every Counted t
     -- One pair of prices is enough.
     somewhere : (p : Price) → DearerInWeights w₁ w₂ t₁ t₂ p → T (neverDearer (inWeights w₁ t₁) (inWeights w₂ t₂)) → ⊥
     somewhere p f h =
-        let u : ℕ = p .u * (w₁ .survivors * w₂ .survivors) in
+        let u : ℕ = p .u * (w₁ .survivors .0 * w₂ .survivors .0) in
         let v : ℕ = p .v * (w₁ .defaults * w₂ .defaults) in
         let one = cheapest-is (inWeights w₁ t₁) u v in
         let two = cheapest-is (inWeights w₂ t₂) u v in
-        let good = never-dearer (inWeights w₁ t₁) (inWeights w₂ t₂) (weighted-counted (w₁ .defaults) (w₁ .survivors) t₁) same .0 h in
+        let good = never-dearer (inWeights w₁ t₁) (inWeights w₂ t₂) (weighted-counted (w₁ .defaults) (w₁ .survivors .0) t₁) same .0 h in
         omega (arith, good u v _ _ one two, f .more _ _ one two)
 
-    pub told : 1 ≤ w₂ .defaults → 1 ≤ w₂ .survivors → (a : Found) → Finds w₁ w₂ (pooledScale t₁) (pooledScale t₂) a
+    pub told : 1 ≤ w₂ .defaults → 1 ≤ w₂ .survivors .0 → (a : Found) → Finds w₁ w₂ (pooledScale t₁) (pooledScale t₂) a
         → Told (neverDearer (inWeights w₁ t₁) (inWeights w₂ t₂)) (DearerInWeights w₁ w₂ t₁ t₂) (dearerAt w₂ a)
     told pos-d₂ pos-s₂ Nothing f = told-nowhere _ _ (never f)
     told pos-d₂ pos-s₂ (One b) f = let d = dearer-pooled pos-d₂ pos-s₂ b f in told-at _ _ _ (somewhere _ d) d
@@ -193,10 +193,10 @@ judged w₁ w₂ t₁ t₂ (At p) (At q) f g =
 -- What the weights have to be: in the other's the prices are numbers of 32 bits.
 pub record Weighable (own other : Weights) (t : Table) : Type 0 where
   pub some-defaults : 1 ≤ own .defaults
-  pub some-survivors : 1 ≤ own .survivors
+  pub some-survivors : 1 ≤ own .survivors .0
   pub light : Light own
   pub few-missed : survivorsIn t * other .defaults ≤ largest
-  pub few-turned-away : defaultsIn t * other .survivors ≤ largest
+  pub few-turned-away : defaultsIn t * other .survivors .0 ≤ largest
 
 -- Two sound tables, their blocks as the code holds them, and their weights.
 pub record Judges (w₁ w₂ : Weights) (t₁ t₂ : Table) (first second : List ℕ) : Type 0 where

@@ -32,19 +32,19 @@ sub-fits a b h k = omega (arith, size-of a b)
 
 -- All that a scale counts is few.
 abbrev pub FewIn : Weights → Table → Type 0
-FewIn w t = (w .defaults * defaultsIn t ≤ 100_000_000_000) × (w .survivors * survivorsIn t ≤ 100_000_000_000)
+FewIn w t = (w .defaults * defaultsIn t ≤ 100_000_000_000) × (w .survivors .0 * survivorsIn t ≤ 100_000_000_000)
 
 -- So is what its worst blocks count.
 pub few-worst : (w : Weights) (t : Table) (k : ℕ) → FewIn w t
     → (caughtAfter w t k ≤ 100_000_000_000) × (lostAfter w t k ≤ 100_000_000_000)
 few-worst w t k few =
     let l = drop-le t k in
-    (omega (arith, few, mul-le-mul-left (w .defaults) (l .0)), omega (arith, few, mul-le-mul-left (w .survivors) (l .1)))
+    (omega (arith, few, mul-le-mul-left (w .defaults) (l .0)), omega (arith, few, mul-le-mul-left (w .survivors .0) (l .1)))
 
 -- The next better block, and what the worst blocks count with it.
 module _ (w : Weights) {t : Table} {k : ℕ} (n : Next t k) where
   pub with-next : (caughtAfter w t (k - 1) ≡ caughtAfter w t k + w .defaults * gradeBefore t k .defaults)
-      × (lostAfter w t (k - 1) ≡ lostAfter w t k + w .survivors * survivors (gradeBefore t k))
+      × (lostAfter w t (k - 1) ≡ lostAfter w t k + w .survivors .0 * survivors (gradeBefore t k))
   unfolding defaultsIn survivorsIn
   with-next = rw (n .down) (omega arith, omega arith)
 
@@ -57,15 +57,15 @@ module _ {w : Weights} {t : Table} {k y x : ℕ} {l : Lead} (is : Leads w t k y 
     ahead-defaults : l .defaults +ℤ pos (w .defaults * gradeBefore t k .defaults) ≡ subℕ (caughtAfter w t (k - 1)) y
     ahead-defaults = rw (is .defaults, with-next w n .0) (plus-pos (caughtAfter w t k) y (w .defaults * gradeBefore t k .defaults))
 
-    ahead-survivors : l .survivors +ℤ pos (w .survivors * survivors (gradeBefore t k)) ≡ subℕ (lostAfter w t (k - 1)) x
-    ahead-survivors = rw (is .survivors, with-next w n .1) (plus-pos (lostAfter w t k) x (w .survivors * survivors (gradeBefore t k)))
+    ahead-survivors : l .survivors +ℤ pos (w .survivors .0 * survivors (gradeBefore t k)) ≡ subℕ (lostAfter w t (k - 1)) x
+    ahead-survivors = rw (is .survivors, with-next w n .1) (plus-pos (lostAfter w t k) x (w .survivors .0 * survivors (gradeBefore t k)))
 
     pub goes-ahead : {r : Lead} → r ≡ ahead l (countsIn w (gradeBefore t k)) → Leads w t (k - 1) y x r
     goes-ahead e = rw e record { from = omega (arith, is .from); defaults = ahead-defaults; survivors = ahead-survivors }
 
     pub ahead-fits : FewIn w t → y ≤ 100_000_000_000 → x ≤ 100_000_000_000
         → FitsSigned (l .defaults +ℤ pos (w .defaults * gradeBefore t k .defaults))
-        × FitsSigned (l .survivors +ℤ pos (w .survivors * survivors (gradeBefore t k)))
+        × FitsSigned (l .survivors +ℤ pos (w .survivors .0 * survivors (gradeBefore t k)))
     ahead-fits few few-y few-x =
         let f = few-worst w t (k - 1) few in (
           rw ahead-defaults (sub-fits (caughtAfter w t (k - 1)) y (omega (arith, f)) (omega arith)),
@@ -103,7 +103,7 @@ module _ {w : Weights} {t : Table} {k y x : ℕ} {l : Lead} (is : Leads w t k y 
         → FitsSigned (pos (c .defaults) *ℤ l .survivors) × FitsSigned (pos (c .survivors) *ℤ l .defaults)
     costs-fit small few-y few-x =
         let f = drop-le t k in
-        let s = mul-le-mul-left (c .defaults) (mul-le-mul-left (w .survivors) (f .1)) in
+        let s = mul-le-mul-left (c .defaults) (mul-le-mul-left (w .survivors .0) (f .1)) in
         let d = mul-le-mul-left (c .survivors) (mul-le-mul-left (w .defaults) (f .0)) in (
           rw cost-survivors (sub-fits (c .defaults * lostAfter w t k) (c .defaults * x) (omega (arith, small .0, s)) few-x),
           rw cost-defaults (sub-fits (c .survivors * caughtAfter w t k) (c .survivors * y) (omega (arith, small .1, d)) few-y),

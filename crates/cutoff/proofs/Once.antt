@@ -21,7 +21,7 @@ use Rattle.cutoff.proofs.Weighted.{weighted-once}
 use Rattle.cutoff.proofs.Judged.{DearerInWeights, IsVerdictInWeights, calls, told, Weighable}
 
 abbrev pub once : Weights
-once = record { defaults = 1; survivors = 1 }
+once = record { defaults = 1; survivors = record { 0 = 1 } }
 
 pub once-weighable : {t : Table} → Sound t → Weighable once once t
 once-weighable sound =

@@ -95,7 +95,7 @@ module _ {w : Weights} {at : Counts} {t : Table} {l₀ l : Lead} (on : Turning w
         let s : survivors g ≤ survivorsIn t = omega (arith, n .few-survivors) in
         let d : g .defaults ≤ defaultsIn t = omega (arith, n .few-defaults) in
         rw is (
-          omega (arith, mul-le-mul-left (at .defaults) (mul-le-mul-left (w .survivors) s), small .0),
+          omega (arith, mul-le-mul-left (at .defaults) (mul-le-mul-left (w .survivors .0) s), small .0),
           omega (arith, mul-le-mul-left (at .survivors) (mul-le-mul-left (w .defaults) d), small .1),
         )
 
@@ -105,7 +105,7 @@ module _ {w : Weights} {at : Counts} {t : Table} {l₀ l : Lead} (on : Turning w
         let lt = rw is at (leb-false (at .defaults * c .survivors) (at .survivors * c .defaults) test) in
         let p = take (on .accepted - 1) t in
         let s = drop (on .accepted) t in
-        let after = accepted-after (at .survivors * w .defaults) (at .defaults * w .survivors) p g s (rw (n .split) odds) (omega (arith, lt)) in
+        let after = accepted-after (at .survivors * w .defaults) (at .defaults * w .survivors .0) p g s (rw (n .split) odds) (omega (arith, lt)) in
         turning-ended (omega (arith, rw (n .split) at after, n .better, on .fewer))
 
     -- It is.
@@ -115,7 +115,7 @@ module _ {w : Weights} {at : Counts} {t : Table} {l₀ l : Lead} (on : Turning w
         let le = rw is at (leb-true (at .defaults * c .survivors) (at .survivors * c .defaults) test) in
         let p = take (on .accepted - 1) t in
         let s = drop (on .accepted) t in
-        let before = accepted-before (at .survivors * w .defaults) (at .defaults * w .survivors) p g s (omega (arith, le)) in
+        let before = accepted-before (at .survivors * w .defaults) (at .defaults * w .survivors .0) p g s (omega (arith, le)) in
         record {
           accepted = on .accepted - 1;
           few = omega (arith, on .few);
@@ -125,12 +125,12 @@ module _ {w : Weights} {at : Counts} {t : Table} {l₀ l : Lead} (on : Turning w
 
 -- What is turned away at the prices of a block is turned away at those of a better one.
 away-better : (own of : Weights) (b c r : Grade) → OddsBelow b c
-    → Away (own .survivors * survivors c * of .defaults) (own .defaults * c .defaults * of .survivors) r
-    → Away (own .survivors * survivors b * of .defaults) (own .defaults * b .defaults * of .survivors) r
+    → Away (own .survivors .0 * survivors c * of .defaults) (own .defaults * c .defaults * of .survivors .0) r
+    → Away (own .survivors .0 * survivors b * of .defaults) (own .defaults * b .defaults * of .survivors .0) r
 away-better own of b c r h k =
     omega (
       arith,
-      odds-at-most (own .defaults * of .survivors * survivors r) (own .survivors * of .defaults * r .defaults)
+      odds-at-most (own .defaults * of .survivors .0 * survivors r) (own .survivors .0 * of .defaults * r .defaults)
           (b .defaults) (survivors b) (c .defaults) (survivors c) h (omega arith),
     )
 
@@ -154,22 +154,22 @@ pub record Scales (w₁ w₂ : Weights) (t₁ t₂ : Table) : Type 0 where
   pub few₁ : FewIn w₁ t₁
   pub few₂ : FewIn w₂ t₂
   pub same-defaults : w₁ .defaults * defaultsIn t₁ ≡ w₂ .defaults * defaultsIn t₂
-  pub same-survivors : w₁ .survivors * survivorsIn t₁ ≡ w₂ .survivors * survivorsIn t₂
-  pub few-pairs : w₁ .defaults * defaultsIn t₁ * (w₁ .survivors * survivorsIn t₁) ≤ mostPairs
+  pub same-survivors : w₁ .survivors .0 * survivorsIn t₁ ≡ w₂ .survivors .0 * survivorsIn t₂
+  pub few-pairs : w₁ .defaults * defaultsIn t₁ * (w₁ .survivors .0 * survivorsIn t₁) ≤ mostPairs
 
 pub scales : {first second : List ℕ} (w₁ w₂ : Weights) → Sweepable first → Sweepable second → Light w₁ → Light w₂
     → Matched (inWeights w₁ (scaleIn first)) (inWeights w₂ (scaleIn second)) → Scales w₁ w₂ (scaleIn first) (scaleIn second)
 scales {first} {second} w₁ w₂ known₁ known₂ light₁ light₂ matched =
-    let d₁ = weighted-defaults (w₁ .defaults) (w₁ .survivors) (scaleIn first) in
-    let s₁ = weighted-survivors (w₁ .defaults) (w₁ .survivors) (scaleIn first) in
+    let d₁ = weighted-defaults (w₁ .defaults) (w₁ .survivors .0) (scaleIn first) in
+    let s₁ = weighted-survivors (w₁ .defaults) (w₁ .survivors .0) (scaleIn first) in
     record {
       odds₁ = rising-odds _ (known₁ .rising) (known₁ .counted);
       odds₂ = rising-odds _ (known₂ .rising) (known₂ .counted);
       counted = known₁ .counted;
       few₁ = few-in w₁ known₁ light₁;
       few₂ = few-in w₂ known₂ light₂;
-      same-defaults = sym d₁ ∙ matched .same-defaults ∙ weighted-defaults (w₂ .defaults) (w₂ .survivors) (scaleIn second);
-      same-survivors = sym s₁ ∙ matched .same-survivors ∙ weighted-survivors (w₂ .defaults) (w₂ .survivors) (scaleIn second);
+      same-defaults = sym d₁ ∙ matched .same-defaults ∙ weighted-defaults (w₂ .defaults) (w₂ .survivors .0) (scaleIn second);
+      same-survivors = sym s₁ ∙ matched .same-survivors ∙ weighted-survivors (w₂ .defaults) (w₂ .survivors .0) (scaleIn second);
       few-pairs = rw (d₁, s₁) at (matched .few-pairs);
     }
 
@@ -193,12 +193,12 @@ none-swept {w₁} {w₂} {first} {second} {l} known₁ known₂ e =
       leads = rw e record {
         from = all-words known₂;
         defaults = rw (drop-length t₁, drop-length t₂, mul-zero (w₁ .defaults), mul-zero (w₂ .defaults));
-        survivors = rw (drop-length t₁, drop-length t₂, mul-zero (w₁ .survivors), mul-zero (w₂ .survivors));
+        survivors = rw (drop-length t₁, drop-length t₂, mul-zero (w₁ .survivors .0), mul-zero (w₂ .survivors .0));
       };
       tried = rw (drop-length t₁) tt;
       fewer = λ _.
           let a = countsIn w₁ (gradeBefore t₁ (length t₁)) in
-          rw e (omega (arith, all-words known₂, accepted-le (a .survivors * w₂ .defaults) (a .defaults * w₂ .survivors) t₂));
+          rw e (omega (arith, all-words known₂, accepted-le (a .survivors * w₂ .defaults) (a .defaults * w₂ .survivors .0) t₂));
     }
 
 -- A turn at the break-even prices of b, the next better block of the first.
@@ -211,18 +211,18 @@ module _ {w₁ w₂ : Weights} {t₁ t₂ : Table} {i : ℕ} {l : Lead} (known :
   here = next t₁ (known .counted) (inv .left) more (inv .few-left)
 
   abbrev u : ℕ
-  u = w₁ .survivors * survivors b
+  u = w₁ .survivors .0 * survivors b
 
   abbrev v : ℕ
   v = w₁ .defaults * b .defaults
 
   -- All that both scales count costs little,
-  small : (v * (w₁ .survivors * survivorsIn t₁) ≤ mostPairs) × (u * (w₁ .defaults * defaultsIn t₁) ≤ mostPairs)
+  small : (v * (w₁ .survivors .0 * survivorsIn t₁) ≤ mostPairs) × (u * (w₁ .defaults * defaultsIn t₁) ≤ mostPairs)
   small =
       let d : b .defaults ≤ defaultsIn t₁ = omega (arith, here .few-defaults) in
       let s : survivors b ≤ survivorsIn t₁ = omega (arith, here .few-survivors) in (
-        omega (arith, mul-le-mul-right (w₁ .survivors * survivorsIn t₁) (mul-le-mul-left (w₁ .defaults) d), known .few-pairs),
-        omega (arith, mul-le-mul-right (w₁ .defaults * defaultsIn t₁) (mul-le-mul-left (w₁ .survivors) s), known .few-pairs),
+        omega (arith, mul-le-mul-right (w₁ .survivors .0 * survivorsIn t₁) (mul-le-mul-left (w₁ .defaults) d), known .few-pairs),
+        omega (arith, mul-le-mul-right (w₁ .defaults * defaultsIn t₁) (mul-le-mul-left (w₁ .survivors .0) s), known .few-pairs),
       )
 
   pub small₂ : SmallIn w₂ t₂ a
@@ -252,20 +252,20 @@ module _ {w₁ w₂ : Weights} {t₁ t₂ : Table} {i : ℕ} {l : Lead} (known :
   fewer-at = rw at (inv .fewer more)
 
   -- The first's cutoff in hand is its cheapest.
-  cuts₁ : Cuts t₁ (drop (inv .left) t₁) (u * w₁ .defaults) (v * w₁ .survivors)
+  cuts₁ : Cuts t₁ (drop (inv .left) t₁) (u * w₁ .defaults) (v * w₁ .survivors .0)
   cuts₁ =
       let k = inv .left in
-      let e : w₁ .survivors * w₁ .defaults * survivors b ≡ u * w₁ .defaults = omega arith in
-      let f : w₁ .survivors * w₁ .defaults * b .defaults ≡ v * w₁ .survivors = omega arith in
-      rw (e, f, here .split) at (cuts-at (w₁ .survivors * w₁ .defaults) (take (k - 1) t₁) b (drop k t₁) (rw (here .split) (known .odds₁)))
+      let e : w₁ .survivors .0 * w₁ .defaults * survivors b ≡ u * w₁ .defaults = omega arith in
+      let f : w₁ .survivors .0 * w₁ .defaults * b .defaults ≡ v * w₁ .survivors .0 = omega arith in
+      rw (e, f, here .split) at (cuts-at (w₁ .survivors .0 * w₁ .defaults) (take (k - 1) t₁) b (drop k t₁) (rw (here .split) (known .odds₁)))
 
   -- So is the second's, once it is turned to these prices; r is its lead.
   module _ {r : Lead} (turned : Turned w₂ a t₂ l r) where
     abbrev k₂ : ℕ
     k₂ = acceptedIn w₂ (countsIn w₁ b) t₂
 
-    cuts₂ : Cuts t₂ (drop k₂ t₂) (u * w₂ .defaults) (v * w₂ .survivors)
-    cuts₂ = accepted-cuts t₂ (u * w₂ .defaults) (v * w₂ .survivors) (known .odds₂)
+    cuts₂ : Cuts t₂ (drop k₂ t₂) (u * w₂ .defaults) (v * w₂ .survivors .0)
+    cuts₂ = accepted-cuts t₂ (u * w₂ .defaults) (v * w₂ .survivors .0) (known .odds₂)
 
     leads-at : Leads w₂ t₂ k₂ (caughtAfter w₁ t₁ (inv .left)) (lostAfter w₁ t₁ (inv .left)) r
     leads-at = rw at at (turned (inv .accepted) (caughtAfter w₁ t₁ (inv .left)) (lostAfter w₁ t₁ (inv .left)) (inv .leads))
@@ -274,7 +274,7 @@ module _ {w₁ w₂ : Weights} {t₁ t₂ : Table} {i : ℕ} {l : Lead} (known :
     costs-fitting =
         let f = drop-le t₁ (inv .left) in
         let d = mul-le-mul-left u (mul-le-mul-left (w₁ .defaults) (f .0)) in
-        let s = mul-le-mul-left v (mul-le-mul-left (w₁ .survivors) (f .1)) in
+        let s = mul-le-mul-left v (mul-le-mul-left (w₁ .survivors .0) (f .1)) in
         rw at (costs-fit leads-at (countsIn w₁ b) (rw at at small₂) (omega (arith, d, small .1)) (omega (arith, s, small .0)))
 
     pub passed-fitting : FitsSigned (r .defaults -ℤ pos (a .defaults)) × FitsSigned (r .survivors -ℤ pos (a .survivors))
@@ -298,7 +298,7 @@ module _ {w₁ w₂ : Weights} {t₁ t₂ : Table} {i : ℕ} {l : Lead} (known :
     found {x} e is holds =
         let lt = cuts-dearer same cuts₁ cuts₂ (omega (arith, ltb-true side₁ side₂ (sym (is ∙ test) ∙ holds))) in
         let more = dearer u v (inWeights w₁ t₁) (inWeights w₂ t₂)
-        (omega (arith, weighted-cost (w₁ .defaults) (w₁ .survivors) t₁ u v, weighted-cost (w₂ .defaults) (w₂ .survivors) t₂ u v, lt)) in
+        (omega (arith, weighted-cost (w₁ .defaults) (w₁ .survivors .0) t₁ u v, weighted-cost (w₂ .defaults) (w₂ .survivors .0) t₂ u v, lt)) in
         let d = ap (λ (g : Grade). g .defaults) e in
         let s = ap (λ (g : Grade). survivors g) e in
         record {
@@ -314,7 +314,7 @@ module _ {w₁ w₂ : Weights} {t₁ t₂ : Table} {i : ℕ} {l : Lead} (known :
         let k = inv .left in
         let le = cuts-no-dearer same cuts₁ cuts₂ (omega (arith, ltb-false side₁ side₂ (sym (is ∙ test) ∙ fails))) in
         let good = no-dearer u v (inWeights w₁ t₁) (inWeights w₂ t₂) .1
-        (omega (arith, weighted-cost (w₁ .defaults) (w₁ .survivors) t₁ u v, weighted-cost (w₂ .defaults) (w₂ .survivors) t₂ u v, le)) in
+        (omega (arith, weighted-cost (w₁ .defaults) (w₁ .survivors .0) t₁ u v, weighted-cost (w₂ .defaults) (w₂ .survivors .0) t₂ u v, le)) in
         let n = with-next w₁ here in
         let leads : Leads w₂ t₂ k₂ (caughtAfter w₁ t₁ (k - 1)) (lostAfter w₁ t₁ (k - 1)) s =
         rw (n .0, n .1) (falls-behind leads-at (countsIn w₁ b) (rw at at e)) in
@@ -323,9 +323,9 @@ module _ {w₁ w₂ : Weights} {t₁ t₂ : Table} {i : ℕ} {l : Lead} (known :
           few-left = omega (arith, inv .few-left);
           from = omega (arith, inv .from);
           accepted = k₂;
-          few = accepted-le (u * w₂ .defaults) (v * w₂ .survivors) t₂;
+          few = accepted-le (u * w₂ .defaults) (v * w₂ .survivors .0) t₂;
           leads = leads;
-          tried = rw (here .down) (rw (weigh-survivors (w₁ .defaults) (w₁ .survivors) b) good, inv .tried);
+          tried = rw (here .down) (rw (weigh-survivors (w₁ .defaults) (w₁ .survivors .0) b) good, inv .tried);
           fewer = λ m.
               let c = gradeBefore t₁ (k - 1) in
               let n′ = next t₁ (known .counted) (k - 1) m (omega (arith, inv .few-left)) in

@@ -40,11 +40,11 @@ pub record Sweepable (w : List ℕ) : Type 0 where
   pub total : obligorsIn (scaleIn w) ≤ 1_000_000
 
 abbrev pub inWeights : Weights → Table → Table
-inWeights w t = weighted (w .defaults) (w .survivors) t
+inWeights w t = weighted (w .defaults) (w .survivors .0) t
 
 -- weights that a table of at most 100,000 obligors can have as its totals
 abbrev pub Light : Weights → Type 0
-Light w = (w .defaults ≤ 100_000) × (w .survivors ≤ 100_000)
+Light w = (w .defaults ≤ 100_000) × (w .survivors .0 ≤ 100_000)
 
 -- the most pairs of a default and a survivor in weights: 2,500,000,000 squared, which fits in 64 bits with a sign
 abbrev pub mostPairs : ℕ
@@ -60,7 +60,7 @@ pub record Matched (t₁ t₂ : Table) : Type 0 where
 
 -- what a block counts in weights
 abbrev pub countsIn : Weights → Grade → Counts
-countsIn w b = record { defaults = w .defaults * b .defaults; survivors = w .survivors * survivors b }
+countsIn w b = record { defaults = w .defaults * b .defaults; survivors = w .survivors .0 * survivors b }
 
 -- as many as a block of 1,000,000 obligors can count
 abbrev pub Few : Counts → Type 0
@@ -83,7 +83,7 @@ abbrev pub caughtAfter : Weights → Table → ℕ → ℕ
 caughtAfter w t k = w .defaults * defaultsIn (drop k t)
 
 abbrev pub lostAfter : Weights → Table → ℕ → ℕ
-lostAfter w t k = w .survivors * survivorsIn (drop k t)
+lostAfter w t k = w .survivors .0 * survivorsIn (drop k t)
 
 -- The lead l of that cutoff over one that catches y defaults and turns x survivors away.
 pub record Leads (w : Weights) (t : Table) (k y x : ℕ) (l : Lead) : Type 0 where
@@ -108,12 +108,12 @@ acceptedAt u v (b ∷ t) = cond (leb (v * survivors b) (u * b .defaults)) 0 (suc
 
 -- how many in weights at the break-even prices of a block
 abbrev pub acceptedIn : Weights → Counts → Table → ℕ
-acceptedIn w at t = acceptedAt (at .survivors * w .defaults) (at .defaults * w .survivors) t
+acceptedIn w at t = acceptedAt (at .survivors * w .defaults) (at .defaults * w .survivors .0) t
 
 -- What all survivors, and all defaults, of t cost at these is small.
 abbrev pub SmallIn : Weights → Table → Counts → Type 0
 SmallIn w t at =
-    (at .defaults * (w .survivors * survivorsIn t) ≤ mostPairs)
+    (at .defaults * (w .survivors .0 * survivorsIn t) ≤ mostPairs)
     × (at .survivors * (w .defaults * defaultsIn t) ≤ mostPairs)
 
 -- Whatever cutoff l is ahead of, r is the lead over it of the one that accepts so many.
@@ -126,8 +126,8 @@ pub record DearerAtBlock (w₁ w₂ : Weights) (t₁ t₂ : Table) (b : Block) :
   pub few-defaults : b .defaults ≤ defaultsIn t₁
   pub few-survivors : survivors (asGrade b) ≤ survivorsIn t₁
   pub more : (c₁ c₂ : ℕ)
-      → IsCheapest (inWeights w₁ t₁) (w₁ .survivors * survivors (asGrade b)) (w₁ .defaults * b .defaults) c₁
-      → IsCheapest (inWeights w₂ t₂) (w₁ .survivors * survivors (asGrade b)) (w₁ .defaults * b .defaults) c₂
+      → IsCheapest (inWeights w₁ t₁) (w₁ .survivors .0 * survivors (asGrade b)) (w₁ .defaults * b .defaults) c₁
+      → IsCheapest (inWeights w₂ t₂) (w₁ .survivors .0 * survivors (asGrade b)) (w₁ .defaults * b .defaults) c₂
       → c₂ < c₁
 
 -- such a block; or t₁ costs no more at the break-even prices of any of its own grades
@@ -139,7 +139,7 @@ Finds w₁ w₂ t₁ t₂ Nothing = Every (λ b. NoDearer (survivors b) (b .defa
 
 -- the break-even prices of a block, in the other scale's weights
 abbrev pub priceIn : Weights → Block → Price
-priceIn other b = record { u = survivors (asGrade b) * other .defaults; v = b .defaults * other .survivors }
+priceIn other b = record { u = survivors (asGrade b) * other .defaults; v = b .defaults * other .survivors .0 }
 
 -- They are numbers of 32 bits.
 abbrev pub SmallPrice : Weights → Found → Type 0

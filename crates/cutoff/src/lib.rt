@@ -23,6 +23,7 @@ use table::DEFAULTS;
 use table::Obligors;
 use table::Survivors;
 use table::grades_of;
+use table::obligors_at;
 
 // The highest price that a call takes.
 pub const PRICE: u32 = 1_000_000;
@@ -49,7 +50,7 @@ pub fn cheapest(place: &[u32], u: u32, v: u32) -> CheapestCutoff
     while 0 < i {
         i -= 1;
         let d = place[DEFAULTS + i];
-        passed = passed.plus(Obligors(place[i]).survivors(d));
+        passed = passed.plus(obligors_at(place, i).survivors(d));
         let away = (v as u64) * (passed.0 as u64);
         let accepted = (u as u64) * (d as u64) + cost;
         if away < accepted {
@@ -77,7 +78,7 @@ impl Price {
     {
         Price {
             u: Obligors(b.obligors).survivors(b.defaults).0 * other.defaults,
-            v: b.defaults * other.survivors,
+            v: b.defaults * other.survivors.0,
         }
     }
 }
@@ -85,16 +86,17 @@ impl Price {
 // How often each default and each survivor of a scale counts.
 pub struct Weights {
     pub defaults: u32,
-    pub survivors: u32,
+    pub survivors: Survivors,
 }
 
 // Each counts once.
 const ONCE: Weights = Weights {
     defaults: 1,
-    survivors: 1,
+    survivors: Survivors(1),
 };
 
-// What a block counts in a scale, its defaults and its survivors each times their weight.
+// What a block counts in a scale, its defaults and its survivors each times their weight. These and their sums are no `Survivors`: they count
+// pairs with the other scale's, and need 64 bits.
 struct Counts {
     defaults: u64,
     survivors: u64,
@@ -110,7 +112,7 @@ impl Weights {
         let lost = Obligors(b.obligors).survivors(b.defaults);
         Counts {
             defaults: (self.defaults as u64) * (b.defaults as u64),
-            survivors: (self.survivors as u64) * (lost.0 as u64),
+            survivors: (self.survivors.0 as u64) * (lost.0 as u64),
         }
     }
 }

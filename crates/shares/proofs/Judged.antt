@@ -30,7 +30,7 @@ use Rattle.shares.proofs.Settled.{same-decision, never-dearer-by-shares
 
 -- a table's totals, the weights of the other
 abbrev tableWeights : Table → Weights
-tableWeights t = record { defaults = defaultsIn t; survivors = survivorsIn t }
+tableWeights t = record { defaults = defaultsIn t; survivors = record { 0 = survivorsIn t } }
 
 -- The sizes.
 

@@ -13,4 +13,4 @@ pub record Shareable (t : Table) : Type 0 where
 
 -- a table's totals, as the weights of the other
 abbrev pub totalWeights : Totals → Weights
-totalWeights t = record { defaults = t .defaults; survivors = t .survivors .0 }
+totalWeights t = record { defaults = t .defaults; survivors = t .survivors }

@@ -20,9 +20,10 @@ pub const OBLIGORS_ON_SHARES: u32 = 100_000;
 fn weights_of(t: Totals) -> Weights
     ensures { λ r. ⌜ r ≡ totalWeights t ⌝ }
 {
+    let survivors = t.survivors;
     Weights {
         defaults: t.defaults,
-        survivors: t.survivors.0,
+        survivors,
     }
 }
 

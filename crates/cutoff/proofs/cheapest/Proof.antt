@@ -81,7 +81,8 @@ choice u v w i passed cutoff cost s prices pos f kept e =
 
 plus-requires : tie.Need-plus-requires Inv-loop μ-loop
 unfolding survivorsIn obligorsIn
-plus-requires c κs = let f = at (c .before .before .before) in omega (arith, c .survivors .ensures)
+plus-requires c κs =
+    let f = at (c .before .before .before) in omega (arith, c .before .obligors-at .ensures, c .survivors .ensures)
 
 chosen : (c : tie.After-plus Inv-loop μ-loop)
     → let loop = c .before .before .before .before .before in
@@ -95,7 +96,7 @@ chosen c =
     let f = at b in
     rw (b .before .before .grades-of .ensures, f .defaults)
     (choice _ _ _ _ (b .before .loop .passed) _ _ _ (b .before .before .before .before .pre .1) (b .loop-test .taken) f (b .before .loop .inv)
-    (omega (arith, c .plus .ensures, c .before .survivors .ensures)))
+    (omega (arith, c .plus .ensures, c .before .survivors .ensures, c .before .before .obligors-at .ensures)))
 
 loop-again : tie.Need-loop-again Inv-loop μ-loop
 loop-again c =
@@ -124,9 +125,8 @@ cheapest-spec =
     (λ c. let f = at c in omega arith)
     (λ c. let f = at c in omega arith)
     (λ c. let f = at (c .before) in omega arith)
-    (λ c. let f = at (c .before) in omega arith)
-    (λ c. let f = at (c .before .before) in omega arith)
-    (λ c κs. let f = at (c .before .before) in omega arith)
+    (λ c κs. let f = at (c .before) in omega arith)
+    (λ c κs. let f = at (c .before .before) in omega (arith, c .obligors-at .ensures))
     plus-requires
     (λ c. let f = chosen (c .before) in omega arith)
     (λ c. let f = chosen (c .before) in omega arith)
