@@ -2,33 +2,33 @@
 -- beats no other table does.
 use Prim.Native.Nat.{ℕ, zero, suc, _+_, _≤_, _<_}
 use mathlib.Core.Path.{_≡_, refl, sym, ap, _∙_}
-use mathlib.Core.List.{List, [], map}
+use mathlib.Core.List.{List, []}
 use native.Mathlib.Omega.{arith}
 use lib.Dec.{T, eqb, eqb→eq, eqb-refl}
 use lib.ListN.{length, getD, take, length-take}
 use lib.Seq.{getD-take}
 use Rattle.table.specs.Table.{Table, Sound, defaultsIn, survivorsIn}
-use Rattle.table.proofs.Every.{every-map, every-at, at-every}
-use Rattle.table.proofs.Suffix.{sound-small, few-counts}
+use Rattle.table.proofs.Every.{every-at, at-every}
 use Rattle.pooling.specs.Pool.{pooledScale}
 use Rattle.pooling.proofs.Joined.{pooled-totals}
 use Rattle.book.specs.Layout.{raters}
 use Rattle.book.specs.Rows.{tableOfRater, tablesIn}
 use Rattle.book.specs.Reading.{allTables, bookFault}
 use Rattle.book.proofs.Checks.{held-first}
-use Rattle.book.proofs.Whole.{Laid, laid, count-tables, table-at, tables-sound}
+use Rattle.book.proofs.Whole.{Laid, laid, count-tables, table-at}
 use Rattle.cutoff.proofs.Pooled.{pool-alike}
 use Rattle.cutoff.proofs.Judged.{held-scale, sweepable}
 use Rattle.shortlist.specs.Shortlist.{better, unbeaten, listed}
 use Rattle.shortlist.specs.Checks.{totalsFault}
-use Rattle.shortlist.specs.Private.{heldSize, heldOf, blocksHeld, Holds, HoldsAll, totalsFrom, heldTotalsFault, scaleAt, Searchable, beats, allCompared, unmarked}
+use Rattle.shortlist.specs.declared.scales.HeldTotals.{HeldTotals}
+use Rattle.shortlist.specs.Private.{heldSize, heldOf, blocksHeld, Holds, HoldsAll, totalsHeld, faultsFrom, heldTotalsFault, scaleAt, Searchable, beats, allCompared, unmarked}
 use Rattle.shortlist.proofs.Numbers.{numbers-same}
 use Rattle.shortlist.proofs.Order.{unbeaten-every}
 use Rattle.shortlist.proofs.Top.{StrictOrder}
 use Rattle.shortlist.proofs.Listed.{Totalled, order}
 use Rattle.shortlist.proofs.Marked.{marks-long, unmarked-unbeaten}
 use Rattle.shortlist.proofs.Pooled.{tests-agree, better-pooled}
-use Rattle.shortlist.proofs.Totals.{totals-fault}
+use Rattle.shortlist.proofs.Totals.{totalsOfTable, faultsOf, totals-fault}
 use Rattle.shortlist.proofs.Accepted.{Accepted}
 
 module _ (b held : List ℕ) (whole : bookFault b ≡ 0) (holds : HoldsAll b held) where
@@ -41,20 +41,24 @@ module _ (b held : List ℕ) (whole : bookFault b ≡ 0) (holds : HoldsAll b hel
 
   -- The totals.
 
-  totals-from : (at : ℕ) (f : Table → ℕ) → ((r : ℕ) → r < raters b → getD (heldOf held r) at 0 ≡ f (tableOfRater b (suc r)))
-      → (r k : ℕ) → r + k ≤ raters b → totalsFrom held at r k ≡ map f (tablesIn b (suc r) k)
-  unfolding totalsFrom tablesIn
-  totals-from at f each r zero h = refl
-  totals-from at f each r (suc k) h = rw (each r (omega arith), totals-from at f each (suc r) k (omega arith)) refl
+  held-totals : (r : ℕ) → r < raters b → totalsHeld (heldOf held r) ≡ totalsOfTable (tableOfRater b (suc r))
+  held-totals r h = rw (holds r h .defaults, holds r h .survivors) refl
+
+  faults-from : (first : HeldTotals) (r k : ℕ) → r + k ≤ raters b → faultsFrom held first r k ≡ faultsOf first (tablesIn b (suc r) k)
+  unfolding faultsFrom faultsOf tablesIn
+  faults-from first r zero h = refl
+  faults-from first r (suc k) h = rw (held-totals r (omega arith), faults-from first (suc r) k (omega arith)) refl
+
+  of-first : (n : ℕ) → 1 ≤ n → faultsOf (totalsOfTable (tableOfRater b 1)) (tablesIn b 1 n) ≡ totalsFault (tablesIn b 1 n)
+  unfolding tablesIn
+  of-first zero h = absurd (omega arith)
+  of-first (suc n) h = totals-fault (tableOfRater b 1) (tablesIn b 2 n)
 
   pub book-totals : heldTotalsFault held (raters b) ≡ totalsFault (allTables b)
   book-totals =
-      rw (
-        totals-from 121 defaultsIn (λ r h. holds r h .defaults) 0 (raters b) (omega arith),
-        totals-from 122 survivorsIn (λ r h. holds r h .survivors) 0 (raters b) (omega arith),
-      )
-      (totals-fault (allTables b) (omega (arith, count, book-laid .some))
-      (every-map (λ t s. let few = few-counts (sound-small s) in (omega arith, omega arith)) (allTables b) (tables-sound b whole)))
+      let some = book-laid .some in
+      rw (held-totals 0 (omega (arith, some))) (faults-from (totalsOfTable (tableOfRater b 1)) 0 (raters b) (omega arith))
+      ∙ of-first (raters b) (omega (arith, some))
 
   -- The scales.
   module _ (long : length held ≡ heldSize) (a : Accepted b) where

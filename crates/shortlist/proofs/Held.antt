@@ -1,37 +1,32 @@
 -- The numbers that are held of each rater: where they stand, and what the scales that they hold are.
-use Prim.Native.Nat.{ℕ, suc, _+_, _-_, _*_, _≤_, _<_, min, max}
+use Prim.Native.Nat.{ℕ, suc, _+_, _-_, _*_, _≤_, _<_}
 use mathlib.Core.Path.{_≡_, refl, sym, ap, _∙_}
-use mathlib.Core.List.{List, [], _∷_, _++_}
+use mathlib.Core.List.{List, _++_}
 use native.Mathlib.Omega.{arith}
 use lib.ListN.{length, getD, set, take, drop, length-take, length-drop, length-set, take-append-drop}
 use lib.Seq.{paste, length-paste, take-paste, take-length, take-set-le, take-add, length-take-le, take-append-le, drop-append-le, take-at, drop-at, getD-set-same, getD-set-other}
 use Rattle.table.specs.Table.{Table, defaultsIn, survivorsIn}
 use Rattle.pooling.specs.Private.{blockWords, spanning}
-use Rattle.shortlist.specs.Private.{scaleSize, heldSize, heldOf, Holds, totalsFrom, rangeOf}
-use Rattle.shortlist.specs.declared.scales.Range.{Range}
+use Rattle.shortlist.specs.Private.{scaleSize, heldSize, heldOf, Holds, totalsHeld, faultBeside, soonerOf, faultsFrom}
+use Rattle.shortlist.specs.declared.scales.HeldTotals.{HeldTotals}
 
 pub length-held : (held : List ℕ) (r : ℕ) → length held ≡ heldSize → r < 16 → length (heldOf held r) ≡ scaleSize
 length-held held r e h = rw (length-take, length-drop) (omega arith)
 
--- Their totals, from some rater on.
+-- The faults of their totals, from some rater on.
 
-pub totals-end : (held : List ℕ) (at r n : ℕ) → n ≤ r → totalsFrom held at r (n - r) ≡ []
-unfolding totalsFrom
-totals-end held at r n h = let e : n - r ≡ 0 = omega arith in rw e
+pub faults-end : (held : List ℕ) (first : HeldTotals) (r n : ℕ) → n ≤ r → 0 ≡ faultsFrom held first r (n - r)
+unfolding faultsFrom
+faults-end held first r n h = let e : n - r ≡ 0 = omega arith in rw e
 
-pub totals-down : (held : List ℕ) (at r n : ℕ) → 0 < r → r ≤ n
-    → totalsFrom held at (r - 1) (n - (r - 1)) ≡ getD (heldOf held (r - 1)) at 0 ∷ totalsFrom held at r (n - r)
-unfolding totalsFrom
-totals-down held at r n pos le =
-    let e : n - (r - 1) ≡ suc (n - r) = omega arith in
+pub faults-down : {fault found left : ℕ} (held : List ℕ) (first : HeldTotals) (r n : ℕ) → 0 < r → r ≤ n
+    → left ≡ faultsFrom held first r (n - r) → fault ≡ faultBeside first (totalsHeld (heldOf held (r - 1))) → found ≡ soonerOf fault left
+    → found ≡ faultsFrom held first (r - 1) (n - (r - 1))
+unfolding faultsFrom
+faults-down held first r n pos le e f g =
+    let k : n - (r - 1) ≡ suc (n - r) = omega arith in
     let s : suc (r - 1) ≡ r = omega arith in
-    rw (e, s)
-
-pub range-next : {range : Range} {least most : ℕ} (held : List ℕ) (at r n : ℕ) → 0 < r → r ≤ n → range ≡ rangeOf (totalsFrom held at r (n - r))
-    → least ≡ min (getD (heldOf held (r - 1)) at 0) (range .least) → most ≡ max (getD (heldOf held (r - 1)) at 0) (range .most)
-    → _≡_ {A = Range} (record { least = least; most = most }) (rangeOf (totalsFrom held at (r - 1) (n - (r - 1))))
-unfolding rangeOf
-range-next held at r n pos le e f g = rw (totals-down held at r n pos le, f, g, e) refl
+    rw (k, s, g, e, f) refl
 
 -- A rater's numbers, as they are stored over any 123: the words of its blocks so that they end at 120, then where they start, D and S.
 module _ (w part : List ℕ) (from d s : ℕ) (long : length w ≡ 123) (ends : from + length part ≡ 120) where

@@ -1,44 +1,37 @@
--- The checks of the totals go by the range of the counts: some table has none exactly if the least is 0, and any two have as many exactly if the
--- least is the most.
-use Prim.Native.Nat.{ℕ, zero, suc, _≤_, min, max}
+-- The checks of the totals go by each table beside the first: the smallest of the tables' faults is that of all checks in their order.
+use Prim.Native.Nat.{ℕ}
 use mathlib.Core.Path.{_≡_, refl, sym, _∙_}
-use mathlib.Core.Bool.{not}
-use mathlib.Core.List.{List, [], _∷_, _++_, map}
+use mathlib.Core.Bool.{Bool, true, false, not, cond, _||_}
+use mathlib.Core.List.{List, [], _∷_, _++_}
 use native.Mathlib.Omega.{arith}
 use native.Mathlib.Decide.{decLe, ℕ-discrete}
 use borrow.Author.Tests.{eq-eqb, ne-eqb, le-leb, lt-leb}
-use lib.Dec.{T, T-not, eqb, eqb→eq, eqb-refl}
-use lib.ListN.{length}
+use lib.Dec.{eqb}
 use Rattle.table.specs.Table.{Table, Every, defaultsIn, survivorsIn}
-use Rattle.table.specs.Counts.{largest}
-use Rattle.table.proofs.Test.{by-test}
-use Rattle.book.specs.Checks.{Check, fault}
-use Rattle.book.proofs.Checks.{stop, go}
-use Rattle.shortlist.specs.declared.scales.Range.{Range}
+use Rattle.book.specs.Checks.{Check, fault, firstFault}
+use Rattle.shortlist.specs.declared.scales.HeldTotals.{HeldTotals}
 use Rattle.shortlist.specs.Checks.{someChecks, equalChecks, sameChecks, totalsFault}
-use Rattle.shortlist.specs.Private.{rangeOf, rangesFault}
+use Rattle.shortlist.specs.Private.{faultBeside, soonerOf}
 
 module _ (count : Table → ℕ) where
-  abbrev range : List Table → Range
-  range ts = rangeOf (map count ts)
+  -- some table has none
+  unfoldable none : List Table → Bool
+  none [] = false
+  none (t ∷ ts) = eqb (count t) 0 || none ts
 
-  -- At least one in each.
-
-  some-none : (number : ℕ) (ts : List Table) → range ts .least ≡ 0 → number ≡ fault (someChecks count number ts)
-  unfolding rangeOf someChecks fault
-  some-none number [] h = absurd (omega arith)
-  some-none number (t ∷ ts) h =
+  some-fault : (number : ℕ) (ts : List Table) → fault (someChecks count number ts) ≡ cond (none ts) number 0
+  unfolding none someChecks fault
+  some-fault number [] = refl
+  some-fault number (t ∷ ts) =
       elim (decLe 1 (count t)) [
-        | yes le ↦ rw (le-leb 1 (count t) le) (some-none number ts (omega arith))
-        | no gt ↦ rw (lt-leb 1 (count t) (omega arith))
+        | yes le ↦ rw (le-leb 1 (count t) le, ne-eqb (count t) 0 (λ e. omega arith)) (some-fault number ts)
+        | no gt ↦ rw (lt-leb 1 (count t) (omega arith), eq-eqb (count t) 0 (omega arith)) refl
       ]
 
-  all-some : (number : ℕ) (ts : List Table) → 1 ≤ range ts .least → 0 ≡ fault (someChecks count number ts)
-  unfolding rangeOf someChecks fault
-  all-some number [] h = refl
-  all-some number (t ∷ ts) h = rw (le-leb 1 (count t) (omega arith)) (all-some number ts (omega arith))
-
-  -- As many in any two.
+  -- some table has not n
+  unfoldable differ : ℕ → List Table → Bool
+  differ n [] = false
+  differ n (t ∷ ts) = not (eqb (count t) n) || differ n ts
 
   abbrev All : ℕ → List Table → Type 0
   All n ts = Every (λ t. n ≡ count t) ts
@@ -48,73 +41,96 @@ module _ (count : Table → ℕ) where
   equal-passed n [] more h = refl
   equal-passed n (t ∷ ts) more h = rw (eq-eqb n (count t) (h .0)) (equal-passed n ts more (h .1))
 
-  equal-failed : (n : ℕ) (ts : List Table) (more : List Check) → (All n ts → ⊥) → 25 ≡ fault (equalChecks count n ts ++ more)
-  unfolding equalChecks fault
-  equal-failed n [] more h = absurd (h tt)
-  equal-failed n (t ∷ ts) more h =
-      elim (ℕ-discrete n (count t)) [
-        | yes e ↦ rw (eq-eqb n (count t) e) (equal-failed n ts more (λ k. h (e, k)))
-        | no e ↦ rw (ne-eqb n (count t) e)
-      ]
-
-  -- n is the least and the most of those that all have n.
-  level : (n : ℕ) (ts : List Table) → n ≤ largest → All n ts → (min n (range ts .least) ≡ n) × (max n (range ts .most) ≡ n)
-  unfolding rangeOf
-  level n [] few h = (omega arith, omega arith)
-  level n (t ∷ ts) few h = let r = level n ts few (h .1) in (omega (arith, r, h .0), omega (arith, r, h .0))
-
-  -- Where the range of all is n alone, all have n.
-  flat : (n : ℕ) (ts : List Table) → n ≤ range ts .least → range ts .most ≤ n → All n ts
-  unfolding rangeOf
-  flat n [] low high = tt
-  flat n (t ∷ ts) low high = (omega arith, flat n ts (omega arith) (omega arith))
-
   pub level-same : (n : ℕ) (ts : List Table) → All n ts → 0 ≡ fault (sameChecks count ts)
   unfolding sameChecks fault
   level-same n [] f = refl
   level-same n (t ∷ ts) f = rw (equal-passed (count t) ts (sameChecks count ts) (rw (f .0) at (f .1))) (level-same n ts (f .1))
 
-  all-same : (t : Table) (ts : List Table) → range (t ∷ ts) .least ≡ range (t ∷ ts) .most → 0 ≡ fault (sameChecks count (t ∷ ts))
-  unfolding rangeOf
-  all-same t ts h = level-same (count t) (t ∷ ts) (refl, flat (count t) ts (omega arith) (omega arith))
+  equal-fault : (n : ℕ) (ts : List Table) (more : List Check) → (All n ts → fault more ≡ 0)
+      → fault (equalChecks count n ts ++ more) ≡ cond (differ n ts) 25 0
+  unfolding equalChecks fault differ
+  equal-fault n [] more h = h tt
+  equal-fault n (t ∷ ts) more h =
+      elim (ℕ-discrete n (count t)) [
+        | yes e ↦ rw (eq-eqb n (count t) e, eq-eqb (count t) n (sym e)) (equal-fault n ts more (λ k. h (e, k)))
+        | no e ↦ rw (ne-eqb n (count t) e, ne-eqb (count t) n (λ k. e (sym k))) refl
+      ]
 
-  some-differ : (t : Table) (ts : List Table) → count t ≤ largest → (range (t ∷ ts) .least ≡ range (t ∷ ts) .most → ⊥)
-      → 25 ≡ fault (sameChecks count (t ∷ ts))
-  unfolding sameChecks rangeOf
-  some-differ t ts few h =
-      equal-failed (count t) ts (sameChecks count ts) (λ f. let l = level (count t) ts few f in h (l .0 ∙ sym (l .1)))
+  -- Any two have as many exactly if all have as many as the first.
+  same-fault : (t : Table) (ts : List Table) → fault (sameChecks count (t ∷ ts)) ≡ cond (differ (count t) (t ∷ ts)) 25 0
+  unfolding sameChecks differ
+  same-fault t ts =
+      rw (eq-eqb (count t) (count t) refl) (equal-fault (count t) ts (sameChecks count ts) (λ h. sym (level-same (count t) ts h)))
 
-not-equal : (n m : ℕ) → T (not (eqb n m)) → n ≡ m → ⊥
-not-equal n m h e = T-not (eqb n m) h (rw e (eqb-refl m))
+-- The tests of all.
 
-not-zero : (n : ℕ) → T (not (eqb n 0)) → 1 ≤ n
-not-zero zero h = absurd h
-not-zero (suc n) h = omega arith
+-- the fault where these tell whether there is one without defaults, without survivors, and with other ones than the first
+abbrev faultBy : Bool → Bool → Bool → ℕ
+faultBy no-defaults no-survivors other = cond no-defaults 23 (cond no-survivors 24 (cond other 25 0))
 
--- All four.
-ranges-fault : (t : Table) (ts : List Table) → defaultsIn t ≤ largest → survivorsIn t ≤ largest
-    → rangesFault (rangeOf (map defaultsIn (t ∷ ts))) (rangeOf (map survivorsIn (t ∷ ts))) ≡ totalsFault (t ∷ ts)
-unfolding rangesFault
-ranges-fault t ts few-d few-s =
+sooner-by : (a b c x y z : Bool) → soonerOf (faultBy a b c) (faultBy x y z) ≡ faultBy (a || x) (b || y) (c || z)
+unfolding soonerOf
+sooner-by true b c true y z = refl
+sooner-by true b c false true z = refl
+sooner-by true b c false false true = refl
+sooner-by true b c false false false = refl
+sooner-by false true c true y z = refl
+sooner-by false true c false true z = refl
+sooner-by false true c false false true = refl
+sooner-by false true c false false false = refl
+sooner-by false false true true y z = refl
+sooner-by false false true false true z = refl
+sooner-by false false true false false true = refl
+sooner-by false false true false false false = refl
+sooner-by false false false x y z = refl
+
+either : (c d : Bool) → _≡_ {A = ℕ} (cond c (cond d 0 25) 25) (cond (not c || not d) 25 0)
+either true true = refl
+either true false = refl
+either false d = refl
+
+exchange : (a b c d : Bool) → ((a || b) || (c || d)) ≡ ((a || c) || (b || d))
+exchange true b c d = refl
+exchange false true true d = refl
+exchange false true false d = refl
+exchange false false c d = refl
+
+in-order : (a b c d : Bool) → firstFault (cond a 23 0) (firstFault (cond b 24 0) (firstFault (cond c 25 0) (cond d 25 0))) ≡ faultBy a b (c || d)
+unfolding firstFault
+in-order true b c d = refl
+in-order false true c d = refl
+in-order false false true d = refl
+in-order false false false d = refl
+
+-- a table's totals
+abbrev pub totalsOfTable : Table → HeldTotals
+totalsOfTable t = record { defaults = defaultsIn t; survivors = record { 0 = survivorsIn t } }
+
+-- the smallest fault of some tables beside the first
+unfoldable pub faultsOf : HeldTotals → List Table → ℕ
+faultsOf first [] = 0
+faultsOf first (t ∷ ts) = soonerOf (faultBeside first (totalsOfTable t)) (faultsOf first ts)
+
+faults-by : (first : HeldTotals) (ts : List Table)
+    → faultsOf first ts
+    ≡ faultBy (none defaultsIn ts) (none survivorsIn ts)
+    (differ defaultsIn (first .defaults) ts || differ survivorsIn (first .survivors .0) ts)
+unfolding faultsOf faultBeside none differ
+faults-by first [] = refl
+faults-by first (t ∷ ts) =
+    let c = eqb (defaultsIn t) (first .defaults) in
+    let d = eqb (survivorsIn t) (first .survivors .0) in
+    rw (
+      either c d,
+      faults-by first ts,
+      exchange (not c) (differ defaultsIn (first .defaults) ts) (not d) (differ survivorsIn (first .survivors .0) ts),
+    )
+    (sooner-by (eqb (defaultsIn t) 0) (eqb (survivorsIn t) 0) (not c || not d) (none defaultsIn ts) (none survivorsIn ts)
+    (differ defaultsIn (first .defaults) ts || differ survivorsIn (first .survivors .0) ts))
+
+pub totals-fault : (t : Table) (ts : List Table) → faultsOf (totalsOfTable t) (t ∷ ts) ≡ totalsFault (t ∷ ts)
+totals-fault t ts =
     let all = t ∷ ts in
-    let d = range defaultsIn all in
-    let s = range survivorsIn all in
-    let Is : ℕ → Type 0 = λ n. n ≡ totalsFault all in
-    by-test Is (eqb (d .least) 0) (λ z. stop _ (some-none defaultsIn 23 all (eqb→eq _ 0 z)) (λ k. omega arith))
-    (λ z.
-    let one = all-some defaultsIn 23 all (not-zero (d .least) z) in
-    by-test Is (eqb (s .least) 0) (λ z. go (sym one) (stop _ (some-none survivorsIn 24 all (eqb→eq _ 0 z)) (λ k. omega arith)))
-    (λ z.
-    let two = all-some survivorsIn 24 all (not-zero (s .least) z) in
-    by-test Is (eqb (d .least) (d .most))
-    (λ e.
-    let three = all-same defaultsIn t ts (eqb→eq _ _ e) in
-    by-test Is (eqb (s .least) (s .most))
-    (λ e. go (sym one) (go (sym two) (go (sym three) (all-same survivorsIn t ts (eqb→eq _ _ e)))))
-    (λ e. go (sym one) (go (sym two) (go (sym three) (some-differ survivorsIn t ts few-s (not-equal _ _ e))))))
-    (λ e. go (sym one) (go (sym two) (stop _ (some-differ defaultsIn t ts few-d (not-equal _ _ e)) (λ k. omega arith))))))
-
-pub totals-fault : (ts : List Table) → 1 ≤ length ts → Every (λ t. (defaultsIn t ≤ largest) × (survivorsIn t ≤ largest)) ts
-    → rangesFault (rangeOf (map defaultsIn ts)) (rangeOf (map survivorsIn ts)) ≡ totalsFault ts
-totals-fault [] some few = absurd (omega arith)
-totals-fault (t ∷ ts) some few = ranges-fault t ts (few .0 .0) (few .0 .1)
+    faults-by (totalsOfTable t) all
+    ∙ sym (rw (some-fault defaultsIn 23 all, some-fault survivorsIn 24 all, same-fault defaultsIn t ts, same-fault survivorsIn t ts)
+    (in-order (none defaultsIn all) (none survivorsIn all) (differ defaultsIn (defaultsIn t) all) (differ survivorsIn (survivorsIn t) all)))

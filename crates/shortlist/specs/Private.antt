@@ -1,20 +1,19 @@
 -- Serves contracts of functions inside the library only: what is promised does not rest on it.
--- The pooled scales of a book's raters as the code holds them, the range of their totals, and the marks of the raters that are beaten. Raters are
+-- The pooled scales of a book's raters as the code holds them, the fault of their totals, and the marks of the raters that are beaten. Raters are
 -- counted from 0 here.
-use Prim.Native.Nat.{ℕ, zero, suc, _-_, _*_, _≤_, _<_, min, max}
+use Prim.Native.Nat.{ℕ, zero, suc, _-_, _*_, _≤_, _<_, min}
 use mathlib.Core.Path.{_≡_}
 use mathlib.Core.Bool.{Bool, true, false, cond}
 use mathlib.Core.List.{List, [], _∷_}
 use lib.Dec.{eqb}
 use lib.ListN.{length, getD, set, take, drop, replicate}
 use Rattle.table.specs.Table.{Table, defaultsIn, survivorsIn}
-use Rattle.table.specs.Counts.{largest}
 use Rattle.pooling.specs.Private.{blockWords, spanning}
 use Rattle.book.specs.Layout.{raters}
 use Rattle.book.specs.Rows.{tableOfRater}
 use Rattle.cutoff.specs.Sweep.{scaleIn, Sweepable}
 use Rattle.shortlist.specs.Shortlist.{better, numbersOf}
-use Rattle.shortlist.specs.declared.scales.Range.{Range}
+use Rattle.shortlist.specs.declared.scales.HeldTotals.{HeldTotals}
 use Rattle.shortlist.specs.declared.beaten.Winner.{Winner}
 use Rattle.shortlist.specs.declared.beaten.Winner.the-variants.{First, Second, Neither}
 
@@ -50,24 +49,28 @@ HoldsAll b held = (r : ℕ) → r < raters b → Holds (heldOf held r) (tableOfR
 
 -- Their totals.
 
--- the number at `at` of each of k raters, from rater r on
-unfoldable pub totalsFrom : List ℕ → ℕ → ℕ → ℕ → List ℕ
-totalsFrom held at r zero = []
-totalsFrom held at r (suc k) = getD (heldOf held r) at 0 ∷ totalsFrom held at (suc r) k
+-- D and S of a rater, of its numbers
+abbrev pub totalsHeld : List ℕ → HeldTotals
+totalsHeld w = record { defaults = getD w 121 0; survivors = record { 0 = getD w 122 0 } }
 
--- the least and the most of some counts
-unfoldable pub rangeOf : List ℕ → Range
-rangeOf [] = record { least = largest; most = 0 }
-rangeOf (n ∷ l) = record { least = min n (rangeOf l .least); most = max n (rangeOf l .most) }
+-- the first of 23, 24 and 25 that a rater with totals t has beside the first rater, 0 for none
+unfoldable pub faultBeside : HeldTotals → HeldTotals → ℕ
+faultBeside first t =
+    cond (eqb (t .defaults) 0) 23
+    (cond (eqb (t .survivors .0) 0) 24
+    (cond (eqb (t .defaults) (first .defaults)) (cond (eqb (t .survivors .0) (first .survivors .0)) 0 25) 25))
 
--- 23, 24 or 25, by the range of D and that of S
-unfoldable pub rangesFault : Range → Range → ℕ
-rangesFault d s =
-    cond (eqb (d .least) 0) 23
-    (cond (eqb (s .least) 0) 24 (cond (eqb (d .least) (d .most)) (cond (eqb (s .least) (s .most)) 0 25) 25))
+-- the smaller of two faults, 0 being none
+unfoldable pub soonerOf : ℕ → ℕ → ℕ
+soonerOf m n = cond (eqb m 0) n (cond (eqb n 0) m (min m n))
+
+-- that of k raters, from rater r on
+unfoldable pub faultsFrom : List ℕ → HeldTotals → ℕ → ℕ → ℕ
+faultsFrom held first r zero = 0
+faultsFrom held first r (suc k) = soonerOf (faultBeside first (totalsHeld (heldOf held r))) (faultsFrom held first (suc r) k)
 
 abbrev pub heldTotalsFault : List ℕ → ℕ → ℕ
-heldTotalsFault held n = rangesFault (rangeOf (totalsFrom held 121 0 n)) (rangeOf (totalsFrom held 122 0 n))
+heldTotalsFault held n = faultsFrom held (totalsHeld (heldOf held 0)) 0 n
 
 -- Who is beaten.
 

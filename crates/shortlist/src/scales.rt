@@ -1,12 +1,12 @@
 // The pooled scales of all raters of a book, each read and pooled once.
-ghost use Prim.Native.Nat.{_≤_, _<_, min, max};
+ghost use Prim.Native.Nat.{_≤_, _<_};
 ghost use mathlib.Core.Path.{_≡_};
 ghost use lib.ListN.{length, getD};
 ghost use Rattle.table.specs.Words.{tableIn, HoldsTable};
 ghost use Rattle.book.specs.Layout.{gradesAt, endOf, layoutFault};
 ghost use Rattle.book.specs.Rows.{tableFrom, tableFault};
 ghost use Rattle.book.specs.Reading.{allTables, tableFaults};
-ghost use Rattle.shortlist.specs.Private.{scaleSize, heldSize, heldOf, blocksHeld, Holds, HoldsAll, totalsFrom, rangeOf, heldTotalsFault};
+ghost use Rattle.shortlist.specs.Private.{scaleSize, heldSize, heldOf, blocksHeld, Holds, HoldsAll, totalsHeld, faultBeside, soonerOf, heldTotalsFault};
 use book::raters_of;
 use book::read_table;
 use book::start_of;
@@ -16,7 +16,9 @@ use refusals::NO_DEFAULTS;
 use refusals::NO_SURVIVORS;
 use refusals::UNEQUAL_TOTALS;
 use table::PLACE;
+use table::Survivors;
 use table::put_numbers;
+use table::survivors_at;
 use table::totals_of;
 use table::wide;
 
@@ -106,63 +108,71 @@ pub fn read_scales(book: &[u8], held: &mut [u32]) -> u32
     0
 }
 
-// The least and the most of some counts.
-pub struct Range {
-    pub least: u32,
-    pub most: u32,
+// D and S of a rater.
+struct HeldTotals {
+    defaults: u32,
+    survivors: Survivors,
 }
 
-fn smaller(a: u32, b: u32) -> u32
-    ensures { λ r. ⌜ r ≡ min a b ⌝ }
+impl HeldTotals {
+    // Those that are held of a rater.
+    fn of(held: &[u32], rater: usize) -> HeldTotals
+        requires { ⌜ (length (now held) ≡ heldSize) × (rater < 16) ⌝ }
+        ensures { λ r. ⌜ r ≡ totalsHeld (heldOf (now (held .entry)) rater) ⌝ }
+    {
+        let scale = scale_of(held, rater);
+        let survivors = survivors_at(scale, SURVIVORS);
+        HeldTotals {
+            defaults: scale[DEFAULTS],
+            survivors,
+        }
+    }
+
+    // 0, or the first of 23, 24 and 25 that a rater with these has beside the first rater.
+    fn fault_beside(self, first: HeldTotals) -> u32
+        ensures { λ r. ⌜ r ≡ faultBeside first self ⌝ }
+    {
+        if self.defaults == 0 {
+            return NO_DEFAULTS;
+        }
+        if self.survivors.0 == 0 {
+            return NO_SURVIVORS;
+        }
+        if self.defaults != first.defaults {
+            return UNEQUAL_TOTALS;
+        }
+        if self.survivors.0 != first.survivors.0 {
+            return UNEQUAL_TOTALS;
+        }
+        0
+    }
+}
+
+// Of two faults the one that is tested first over all raters, which has the smaller number; 0 is none.
+fn sooner(a: u32, b: u32) -> u32
+    ensures { λ r. ⌜ r ≡ soonerOf a b ⌝ }
 {
+    if a == 0 {
+        return b;
+    }
+    if b == 0 {
+        return a;
+    }
     if a < b { a } else { b }
 }
 
-fn larger(a: u32, b: u32) -> u32
-    ensures { λ r. ⌜ r ≡ max a b ⌝ }
-{
-    if a < b { b } else { a }
-}
-
-// The range of a total, which stands at `at`, over all raters.
-fn range_of(held: &[u32], raters: usize, at: usize) -> Range
-    requires { ⌜ (length (now held) ≡ heldSize) × (raters ≤ 16) × (at < scaleSize) ⌝ }
-    ensures { λ r. ⌜ r ≡ rangeOf (totalsFrom (now (held .entry)) at 0 raters) ⌝ }
-{
-    let mut range = Range {
-        least: 4_294_967_295,
-        most: 0,
-    };
-    let mut rater = raters;
-    while 0 < rater {
-        rater -= 1;
-        let n = scale_of(held, rater)[at];
-        range = Range {
-            least: smaller(n, range.least),
-            most: larger(n, range.most),
-        };
-    }
-    range
-}
-
-// 0, or the first of 23 over all raters, 24 over all, and 25 between any two, which are the same exactly if the least is the most.
+// 0, or the first of 23 over all raters, 24 over all, and 25 between any two, which are the same exactly if all are as the first.
 pub fn totals_fault(held: &[u32], raters: usize) -> u32
     requires { ⌜ (length (now held) ≡ heldSize) × (raters ≤ 16) ⌝ }
     ensures { λ r. ⌜ r ≡ heldTotalsFault (now (held .entry)) raters ⌝ }
 {
-    let defaults = range_of(held, raters, DEFAULTS);
-    if defaults.least == 0 {
-        return NO_DEFAULTS;
+    let first = HeldTotals::of(held, 0);
+    let mut found: u32 = 0;
+    let mut rater = raters;
+    while 0 < rater {
+        rater -= 1;
+        let fault = HeldTotals::of(held, rater).fault_beside(first);
+        found = sooner(fault, found);
     }
-    let survivors = range_of(held, raters, SURVIVORS);
-    if survivors.least == 0 {
-        return NO_SURVIVORS;
-    }
-    if defaults.least != defaults.most {
-        return UNEQUAL_TOTALS;
-    }
-    if survivors.least != survivors.most {
-        return UNEQUAL_TOTALS;
-    }
-    0
+    found
 }

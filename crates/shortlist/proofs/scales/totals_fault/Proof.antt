@@ -1,66 +1,59 @@
--- `totals_fault` meets its contract: each way out has the number of the check that ends there.
-use mathlib.Core.Path.{_≡_, refl}
-use mathlib.Core.Bool.{cond}
+-- `totals_fault` meets its contract. The invariant: what is found is the fault of the raters from `rater` on.
+use Prim.Native.Nat.{_-_, _≤_, _<_}
+use mathlib.Core.Path.{_≡_}
+use native.Mathlib.Omega.{arith}
 use borrow.Author.Needs.{needs}
-use borrow.Author.Tests.{eq-eqb, ne-eqb}
 use denote.Ref.{now}
-use lib.Dec.{eqb}
-use Rattle.shortlist.specs.Private.{rangesFault, heldTotalsFault}
+use lib.ListN.{length}
+use Rattle.shortlist.specs.Private.{heldOf, totalsHeld, faultsFrom}
+use Rattle.shortlist.proofs.Held.{faults-end, faults-down}
 use Rattle.shortlist.proofs.scales.totals_fault.Statement.{statement}
 use Rattle.shortlist.proofs.scales.totals_fault.Tie as tie
 
-returns : tie.Need-returns
-unfolding rangesFault
-returns c = rw (← c .before .before .range-of .ensures, eq-eqb _ 0 (c .if1 .taken))
+abbrev Inv-loop : tie.InvT-loop
+Inv-loop held raters first found₀ rater₀ found rater =
+    (rater ≤ raters) × (found ≡ faultsFrom held (totalsHeld (heldOf held 0)) rater (raters - rater))
 
-returns-2 : tie.Need-returns-2
-unfolding rangesFault
-returns-2 c =
-    let s = c .before .before in
-    let d = s .before in
-    rw (← s .range-of2 .ensures, ← d .before .before .range-of .ensures, ne-eqb _ 0 (d .if1 .left), eq-eqb _ 0 (c .if2 .taken))
+abbrev μ-loop : tie.MeasureT-loop
+μ-loop held raters first found₀ rater₀ found rater = rater
 
--- Behind 23 and 24.
-behind : (c : tie.Else2) →
-    let s = c .before .before .range-of2 .result in
-    let e = c .before .before .before in
-    let d = e .before .before .range-of .result in
-    let a = e .before .before .before .before .args in
-    cond (eqb (d .least) (d .most)) (cond (eqb (s .least) (s .most)) 0 25) 25 ≡ heldTotalsFault (now (a .held)) (a .raters)
-unfolding rangesFault
-behind c =
-    let s = c .before .before in
-    let d = s .before in
-    rw (← s .range-of2 .ensures, ← d .before .before .range-of .ensures, ne-eqb _ 0 (d .if1 .left), ne-eqb _ 0 (c .if2 .left)) refl
+loop-holds : tie.Need-loop-holds Inv-loop μ-loop
+loop-holds c = (omega arith, faults-end _ _ _ _ (omega arith))
 
-returns-3 : tie.Need-returns-3
-returns-3 c =
-    let d = c .before .before .before .before .before .before .before .range-of .result in
-    rw (ne-eqb (d .least) (d .most) (c .if3 .taken)) at (behind (c .before .before))
+here : (c : tie.In-loop Inv-loop μ-loop) → (length (now (c .before .before .before .before .args .held)) ≡ 1968) × (c .before .loop .rater - 1 < 16)
+here c = let p = c .before .before .before .before .pre in (p .0, omega (arith, p .1, c .before .loop .inv .0))
 
--- Behind D.
-behind-defaults : (c : tie.Else3) →
-    let e = c .before .before in
-    let s = e .before .before .range-of2 .result in
-    let a = e .before .before .before .before .before .before .before .args in
-    cond (eqb (s .least) (s .most)) 0 25 ≡ heldTotalsFault (now (a .held)) (a .raters)
-behind-defaults c =
-    let e = c .before .before in
-    let d = e .before .before .before .before .before .range-of .result in
-    rw (eq-eqb (d .least) (d .most) (c .if3 .left)) at (behind e)
+loop-again : tie.Need-loop-again Inv-loop μ-loop
+loop-again c =
+    let s = c .before .before .before .before .before .before .before in
+    let l = c .before .before .before .before .loop in
+    let first = c .before .before .before .before .before .of .ensures in
+    let here = c .before .before .of2 .ensures in (
+      omega (arith, l .inv .0),
+      faults-down (now (s .args .held)) _ (l .rater) (s .args .raters) (omega arith) (l .inv .0) (l .inv .1)
+          (rw (first, here) at (c .before .fault-beside .ensures)) (c .sooner .ensures),
+    )
 
-returns-4 : tie.Need-returns-4
-returns-4 c =
-    let e = c .before .before in
-    let s = e .before .before .before .before .range-of2 .result in
-    rw (ne-eqb (s .least) (s .most) (c .if4 .taken)) at (behind-defaults e)
-
-returns-5 : tie.Need-returns-5
-returns-5 c =
-    let e = c .before .before in
-    let s = e .before .before .before .before .range-of2 .result in
-    rw (eq-eqb (s .least) (s .most) (c .if4 .left)) at (behind-defaults e)
+returns : tie.Need-returns Inv-loop μ-loop
+returns c =
+    let l = c .before .loop in
+    let s = c .before .before .before .before .args in
+    let e : l .rater ≡ 0 = omega arith in
+    let z : s .raters - 0 ≡ s .raters = omega arith in
+    rw (e, z) at (l .inv .1)
 
 pub totals-fault-spec : {M : Type 1} → statement M
 totals-fault-spec =
-    tie.close (tie.spec (λ c κs. search needs) returns (λ c κs. search needs) returns-2 returns-3 returns-4 returns-5)
+    tie.close
+    (tie.spec
+    Inv-loop
+    μ-loop
+    (λ c κs. (c .before .pre .0, omega arith))
+    loop-holds
+    (λ c. omega arith)
+    (λ c κs. here c)
+    (λ c κs. search needs)
+    (λ c κs. search needs)
+    (λ c. omega arith)
+    loop-again
+    returns)
