@@ -232,7 +232,7 @@ pub fn totals_of(place: &[u32]) -> Totals
     while 0 < i {
         i -= 1;
         sum += place[DEFAULTS + i];
-        all = all.plus(Obligors(place[i]));
+        all = all.plus(obligors_at(place, i));
     }
     Totals {
         defaults: sum,
