@@ -15,7 +15,7 @@ band-cases : (P : ℕ → Type 0) (x : Block) (b k : ℕ)
     → (RateWithin x (bandLimit b) → P b) → ((RateWithin x (bandLimit b) → ⊥) → P (bandFrom x (suc b) k)) → P (bandFrom x b (suc k))
 unfolding bandFrom
 band-cases P x b k here on =
-    by-test P (leb (x .defaults * 1_000_000) (bandLimit b * x .obligors)) (λ y. here (leb→le _ _ y)) (λ n. on (not-le-of-lt (nleb→lt _ _ n)))
+    by-test P (leb (x .defaults * 1_000_000) (bandLimit b * x .obligors .0)) (λ y. here (leb→le _ _ y)) (λ n. on (not-le-of-lt (nleb→lt _ _ n)))
 
 -- f is the first of the k bands from b on that holds the rate of x, or b + k where none does.
 record IsFirst (x : Block) (b k f : ℕ) : Type 0 where
@@ -49,12 +49,12 @@ module _ (x : Block) (b : ℕ) where
   band-at-most h = elim (decLe (bandOf x) b) [ yes l ↦ l | no l ↦ absurd (band-right x .smallest b (omega arith) h) ]
 
   -- The limit of b is below the rate.
-  pub band-above : b < 14 → bandLimit b * x .obligors < x .defaults * 1_000_000 → b < bandOf x
+  pub band-above : b < 14 → bandLimit b * x .obligors .0 < x .defaults * 1_000_000 → b < bandOf x
   band-above l h =
       elim (decLe (bandOf x) b) [
         | yes k ↦
             let w = band-right x .holds (omega arith) in
-            absurd (omega (arith, mul-le-mul-right (x .obligors) (mul-le-mul-left 100 (pow-le-pow-right {n = 2} (omega arith) k))))
+            absurd (omega (arith, mul-le-mul-right (x .obligors .0) (mul-le-mul-left 100 (pow-le-pow-right {n = 2} (omega arith) k))))
         | no k ↦ omega arith
       ]
 
@@ -67,5 +67,5 @@ pub bands-rise : (x y : Block) → RateBelow x y → bandOf x ≤ bandOf y
 bands-rise x y below =
     elim (decLe 14 (bandOf y)) [
       | yes h ↦ omega (arith, band-right x .within)
-      | no h ↦ band-at-most x (bandOf y) (within-below (x .defaults) (x .obligors) _ _ _ below (band-right y .holds (omega arith)))
+      | no h ↦ band-at-most x (bandOf y) (within-below (x .defaults) (x .obligors .0) _ _ _ below (band-right y .holds (omega arith)))
     ]

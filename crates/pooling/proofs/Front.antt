@@ -11,7 +11,7 @@ use Rattle.pooling.specs.Pool.{Block, single, join, RateBelow, rateBelow
 
 -- the rate of c is at most that of b
 abbrev pub AtMostRate : Block → Block → Type 0
-AtMostRate c b = c .defaults * b .obligors ≤ b .defaults * c .obligors
+AtMostRate c b = c .defaults * b .obligors .0 ≤ b .defaults * c .obligors .0
 
 -- The block stays in front, or joins the next.
 pub front-cases : (P : List Block → Type 0) (b c : Block) (bs : List Block)
@@ -22,7 +22,7 @@ front-cases P b c bs stays joins = by-test P (rateBelow b c) (λ x. stays (ltb�
 -- It stays where its rate is below.
 pub front-below : (b c : Block) (bs : List Block) → RateBelow b c → front b (c ∷ bs) ≡ b ∷ c ∷ bs
 unfolding front
-front-below b c bs h = rw (lt-ltb (b .defaults * c .obligors) (c .defaults * b .obligors) h)
+front-below b c bs h = rw (lt-ltb (b .defaults * c .obligors .0) (c .defaults * b .obligors .0) h)
 
 -- The rates rise.
 

@@ -40,7 +40,7 @@ grades-drop (b ∷ bs) (suc m) = omega (arith, grades-drop bs m)
 
 -- The pooled scale has the totals of the table.
 
-scale-totals : (bs : List Block) → (obligorsIn (map asGrade bs) ≡ sumOf bs .obligors) × (defaultsIn (map asGrade bs) ≡ sumOf bs .defaults)
+scale-totals : (bs : List Block) → (obligorsIn (map asGrade bs) ≡ sumOf bs .obligors .0) × (defaultsIn (map asGrade bs) ≡ sumOf bs .defaults)
 unfolding sumOf obligorsIn defaultsIn
 scale-totals [] = (refl, refl)
 scale-totals (b ∷ bs) = let (n, d) = scale-totals bs in (rw n, rw d)
@@ -50,12 +50,12 @@ pooled-totals t counted =
     let (n, d) = scale-totals (blocks t) in
     let e = sum-pool (occupied t) in
     let same = same-counts t counted in
-    (n ∙ ap (λ b. b .obligors) e ∙ same .obligors, d ∙ ap (λ b. b .defaults) e ∙ same .defaults)
+    (n ∙ ap (λ b. b .obligors .0) e ∙ same .obligors, d ∙ ap (λ b. b .defaults) e ∙ same .defaults)
 
 -- Every block.
 
-pub blocks-occupied : (t : Table) → Every Occupied t → Every (λ b. 1 ≤ b .obligors) (pool t)
-blocks-occupied t h = pool-every (λ b. 1 ≤ b .obligors) (λ b c p q. omega arith) t h
+pub blocks-occupied : (t : Table) → Every Occupied t → Every (λ b. 1 ≤ b .obligors .0) (pool t)
+blocks-occupied t h = pool-every (λ b. 1 ≤ b .obligors .0) (λ b c p q. omega arith) t h
 
-pub blocks-counted : (t : Table) → Every Counted t → Every (λ b. b .defaults ≤ b .obligors) (pool t)
-blocks-counted t h = pool-every (λ b. b .defaults ≤ b .obligors) (λ b c p q. omega arith) t h
+pub blocks-counted : (t : Table) → Every Counted t → Every (λ b. b .defaults ≤ b .obligors .0) (pool t)
+blocks-counted t h = pool-every (λ b. b .defaults ≤ b .obligors .0) (λ b c p q. omega arith) t h

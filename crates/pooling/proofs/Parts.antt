@@ -67,13 +67,13 @@ module _ (m s : ℕ) where
     before t = replicate (length t) (rateOf b) ++ p
 
     -- A tail comes to at most β for each obligor.
-    tail-bound : (t : Table) → 1 ≤ b .obligors → AtMostRate (blockOf t) b → m * defaultsIn t + s * obligorsIn t ≤ β * obligorsIn t
+    tail-bound : (t : Table) → 1 ≤ b .obligors .0 → AtMostRate (blockOf t) b → m * defaultsIn t + s * obligorsIn t ≤ β * obligorsIn t
     unfolding ratio
     tail-bound t pos h =
-        le-of-mul-le-mul-left {k = b .obligors} (omega (arith, mul-le-mul-left m h, times-eq (obligorsIn t) (w .is))) pos
+        le-of-mul-le-mul-left {k = b .obligors .0} (omega (arith, mul-le-mul-left m h, times-eq (obligorsIn t) (w .is))) pos
 
     -- Rates that climb from a are a and steps upward, and each step raises a tail.
-    by-parts : 1 ≤ b .obligors
+    by-parts : 1 ≤ b .obligors .0
         → ((a : ℕ) (q : List Fraction) → Climb a u q → observed u q ≤ inner v u p q)
         → (t : Table) → Flat b t → (a : ℕ) (q : List Fraction) → Climb a (t ++ u) q
         → observed (t ++ u) q + a * (β * obligorsIn t) ≤ inner v (t ++ u) (before t) q + a * (m * defaultsIn t + s * obligorsIn t)

@@ -54,18 +54,18 @@ pool-runs t = cut-runs (pool-cut (λ _. Unit {0}) (λ t u f g l. tt) t (every (�
 
 -- The tails of a run.
 
-rate-trans : (a b c : Block) → 1 ≤ b .obligors → AtMostRate a b → AtMostRate b c → AtMostRate a c
+rate-trans : (a b c : Block) → 1 ≤ b .obligors .0 → AtMostRate a b → AtMostRate b c → AtMostRate a c
 rate-trans a b c p h l =
-    le-of-mul-le-mul-left {k = b .obligors} (omega (arith, mul-le-mul-right (c .obligors) h, mul-le-mul-right (a .obligors) l)) p
+    le-of-mul-le-mul-left {k = b .obligors .0} (omega (arith, mul-le-mul-right (c .obligors .0) h, mul-le-mul-right (a .obligors .0) l)) p
 
 -- a tail of b, and then c, against all of b and c
-tail-join : (a b c : Block) → 1 ≤ b .obligors → a .obligors ≤ b .obligors → AtMostRate a b → AtMostRate c b → AtMostRate (join a c) (join b c)
+tail-join : (a b c : Block) → 1 ≤ b .obligors .0 → a .obligors .0 ≤ b .obligors .0 → AtMostRate a b → AtMostRate c b → AtMostRate (join a c) (join b c)
 tail-join a b c p n h l =
-    le-of-mul-le-mul-left {k = b .obligors}
+    le-of-mul-le-mul-left {k = b .obligors .0}
     (omega (
       arith,
-      mul-le-mul-left (b .obligors + c .obligors) h,
-      rearrange (c .defaults * b .obligors) (b .defaults * c .obligors) (a .obligors) (b .obligors) l n,
+      mul-le-mul-left (b .obligors .0 + c .obligors .0) h,
+      rearrange (c .defaults * b .obligors .0) (b .defaults * c .obligors .0) (a .obligors .0) (b .obligors .0) l n,
     ))
     p
 
@@ -79,7 +79,7 @@ pub record Level (t : Table) : Type 0 where
   pub occupied : 1 ≤ obligorsIn t
   pub flat : Flat (blockOf t) t
 
-flat-below : (b c : Block) (t : Table) → 1 ≤ b .obligors → AtMostRate b c → Flat b t → Flat c t
+flat-below : (b c : Block) (t : Table) → 1 ≤ b .obligors .0 → AtMostRate b c → Flat b t → Flat c t
 flat-below b c [] p l h = tt
 flat-below b c (r ∷ t) p l h = (rate-trans (blockOf (r ∷ t)) b c p (h .0) l, flat-below b c t p l (h .1))
 

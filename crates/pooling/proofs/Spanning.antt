@@ -139,7 +139,7 @@ grades-add b zero k rest = rw zero-add
 grades-add b (suc j) k rest = let e : suc j + k ≡ suc (j + k) = omega arith in rw (e, grades-add b j k rest)
 
 abbrev threeOf : Block → List ℕ
-threeOf b = b .defaults ∷ b .obligors ∷ bandOf b ∷ []
+threeOf b = b .defaults ∷ b .obligors .0 ∷ bandOf b ∷ []
 
 -- Behind an occupied grade of a block its other occupied grades, and the empty ones between, all have its numbers.
 run-numbers : (b : Block) (own : List ℕ) (t u : Table)
@@ -147,7 +147,7 @@ run-numbers : (b : Block) (own : List ℕ) (t u : Table)
 unfolding gradesOf repeating occupied
 run-numbers b own [] u = refl
 run-numbers b own (r ∷ t) u =
-    let more = ap (λ (q : List ℕ). b .defaults ∷ b .obligors ∷ bandOf b ∷ q) (run-numbers b own t u) in
+    let more = ap (λ (q : List ℕ). b .defaults ∷ b .obligors .0 ∷ bandOf b ∷ q) (run-numbers b own t u) in
     elim (decLe 1 (r .obligors)) [ yes o ↦ rw (is-occupied r o) more | no o ↦ rw (is-empty r (omega arith)) more ]
 
 stretched-numbers : {t : Table} {bs cs : List Block} → Stretched t bs cs → (better : List ℕ)
@@ -182,7 +182,7 @@ spanning-numbers t some =
 
 pub record Sums (t : Table) (k : ℕ) (bs : List Block) : Type 0 where
   pub grades : k + sumOf bs .grades ≡ length t
-  pub obligors : sumOf bs .obligors ≡ obligorsIn t
+  pub obligors : sumOf bs .obligors .0 ≡ obligorsIn t
   pub defaults : sumOf bs .defaults ≡ defaultsIn t
 
 pub behind-sums : (t : Table) → Every Counted t → Sums t (waiting t) (behindWaiting t)
@@ -196,7 +196,7 @@ behind-sums (r ∷ t) h =
           rw (is-occupied r o)
           (record {
             grades = omega (arith, ap (λ (x : Block). x .grades) f);
-            obligors = omega (arith, ap (λ (x : Block). x .obligors) f);
+            obligors = omega (arith, ap (λ (x : Block). x .obligors .0) f);
             defaults = omega (arith, ap (λ (x : Block). x .defaults) f);
           })
       | no o ↦ rw (is-empty r (omega arith)) (record { grades = omega arith; obligors = omega arith; defaults = omega arith })

@@ -8,7 +8,7 @@ use native.Mathlib.Omega.{arith}
 use lib.ListN.{length, getD, set, take, drop, length-drop}
 use lib.Seq.{take-all, take-suc, drop-cons, drop-drop, drop-set-add, getD-drop}
 use Rattle.pooling.specs.Pool.{Block}
-use Rattle.pooling.specs.Private.{lengthened, blockWords, blockAt, blocksIn}
+use Rattle.pooling.specs.Private.{block, lengthened, blockWords, blockAt, blocksIn}
 
 pub blocks-back : (bs : List Block) → blocksIn (blockWords bs) ≡ bs
 unfolding blockWords blocksIn
@@ -26,7 +26,7 @@ block-first : (w : List ℕ) (at : ℕ) (b : Block) (bs : List Block) → drop a
 unfolding blockWords
 block-first w at b bs e =
     let g : getD w at 0 ≡ b .grades = rw add-zero at (sym (getD-drop at w 0 0) ∙ ap (λ (l : List ℕ). getD l 0 0) e) in
-    let n : getD w (at + 1) 0 ≡ b .obligors = sym (getD-drop at w 1 0) ∙ ap (λ (l : List ℕ). getD l 1 0) e in
+    let n : getD w (at + 1) 0 ≡ b .obligors .0 = sym (getD-drop at w 1 0) ∙ ap (λ (l : List ℕ). getD l 1 0) e in
     let d : getD w (at + 2) 0 ≡ b .defaults = sym (getD-drop at w 2 0) ∙ ap (λ (l : List ℕ). getD l 2 0) e in
     rw (g, n, d) refl
 
@@ -35,7 +35,7 @@ block-first w at b bs e =
 first-longer : (k : ℕ) (bs : List Block) → set (blockWords bs) 0 (getD (blockWords bs) 0 0 + k) ≡ blockWords (lengthened k bs)
 unfolding blockWords lengthened
 first-longer k [] = refl
-first-longer k (b ∷ bs) = ap (λ (n : ℕ). n ∷ b .obligors ∷ b .defaults ∷ blockWords bs) (omega arith)
+first-longer k (b ∷ bs) = ap (λ (n : ℕ). n ∷ b .obligors .0 ∷ b .defaults ∷ blockWords bs) (omega arith)
 
 pub words-lengthened : (w : List ℕ) (at k : ℕ) (bs : List Block) → drop at w ≡ blockWords bs
     → drop at (set w at (getD w at 0 + k)) ≡ blockWords (lengthened k bs)
@@ -85,11 +85,11 @@ words-drop (b ∷ bs) (suc k) = let e : 3 * suc k ≡ suc (suc (suc (3 * k))) = 
 
 -- the k-th block
 abbrev pub nth : List Block → ℕ → Block
-nth bs k = getD bs k (record { grades = 0; obligors = 0; defaults = 0 })
+nth bs k = getD bs k (block 0 0 0)
 
 -- It stands between those before it and those from k + 1 on.
 pub nth-from : (bs : List Block) (k : ℕ) → k < length bs → drop k bs ≡ nth bs k ∷ drop (k + 1) bs
-nth-from bs k h = rw (drop-cons bs k (record { grades = 0; obligors = 0; defaults = 0 }), add-one)
+nth-from bs k h = rw (drop-cons bs k (block 0 0 0), add-one)
 
 -- The words of all blocks stand from index `start` on. A loop has come to index `at`, before which there are some of the blocks.
 pub record Between (bs : List Block) (start at : ℕ) : Type 0 where
@@ -126,7 +126,7 @@ last w bs start at e b h =
       same = same;
       here = block-first w (at - 3) (nth bs k) (drop (k + 1) bs) words;
       from = rw i at from;
-      to = rw (← add-one k, i) at (take-suc bs k (record { grades = 0; obligors = 0; defaults = 0 }) few);
+      to = rw (← add-one k, i) at (take-suc bs k (block 0 0 0) few);
     }
 
 -- All of them are before the end.

@@ -10,12 +10,12 @@ bandLimit b = 100 * 2 ^ b
 
 -- The rate of a block is at most so many ppm: compared without rounding.
 abbrev pub RateWithin : Block → ℕ → Type 0
-RateWithin x ppm = x .defaults * 1_000_000 ≤ ppm * x .obligors
+RateWithin x ppm = x .defaults * 1_000_000 ≤ ppm * x .obligors .0
 
 -- the first of the k bands from b on that holds the rate of x, or b + k
 unfoldable pub bandFrom : Block → ℕ → ℕ → ℕ
 bandFrom x b zero = b
-bandFrom x b (suc k) = cond (leb (x .defaults * 1_000_000) (bandLimit b * x .obligors)) b (bandFrom x (suc b) k)
+bandFrom x b (suc k) = cond (leb (x .defaults * 1_000_000) (bandLimit b * x .obligors .0)) b (bandFrom x (suc b) k)
 
 abbrev pub bandOf : Block → ℕ
 bandOf x = bandFrom x 0 14

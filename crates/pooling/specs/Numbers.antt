@@ -11,7 +11,7 @@ use Rattle.pooling.specs.Fraction.{Fraction, ratio}
 -- the numbers of k grades of block x, and then rest
 unfoldable pub gradesOf : Block → ℕ → List ℕ → List ℕ
 gradesOf x zero rest = rest
-gradesOf x (suc k) rest = x .defaults ∷ x .obligors ∷ bandOf x ∷ gradesOf x k rest
+gradesOf x (suc k) rest = x .defaults ∷ x .obligors .0 ∷ bandOf x ∷ gradesOf x k rest
 
 -- the numbers of each grade of each block, and then rest
 unfoldable pub numbersOf : List Block → List ℕ → List ℕ

@@ -11,18 +11,23 @@ pub use Rattle.pooling.specs.declared.Block.{Block}
 
 -- a grade as a block of its own
 abbrev pub single : Grade → Block
-single r = record { grades = 1; obligors = r .obligors; defaults = r .defaults }
+single r = record { grades = 1; obligors = record { 0 = r .obligors }; defaults = r .defaults }
 
 -- two neighbouring blocks as one: counts are joined, rates never averaged
 abbrev pub join : Block → Block → Block
-join b c = record { grades = b .grades + c .grades; obligors = b .obligors + c .obligors; defaults = b .defaults + c .defaults }
+join b c =
+    record {
+      grades = b .grades + c .grades;
+      obligors = record { 0 = b .obligors .0 + c .obligors .0 };
+      defaults = b .defaults + c .defaults;
+    }
 
 -- The default rate of b is below that of c.
 abbrev pub RateBelow : Block → Block → Type 0
-RateBelow b c = b .defaults * c .obligors < c .defaults * b .obligors
+RateBelow b c = b .defaults * c .obligors .0 < c .defaults * b .obligors .0
 
 abbrev pub rateBelow : Block → Block → Bool
-rateBelow b c = ltb (b .defaults * c .obligors) (c .defaults * b .obligors)
+rateBelow b c = ltb (b .defaults * c .obligors .0) (c .defaults * b .obligors .0)
 
 -- b before a list of blocks: joined with the first of them for as long as its rate is not below that one's
 unfoldable pub front : Block → List Block → List Block
@@ -40,7 +45,7 @@ blocks t = pool (occupied t)
 
 -- The pooled scale: the table whose grades are the blocks. It announces nothing.
 abbrev pub asGrade : Block → Grade
-asGrade b = record { obligors = b .obligors; defaults = b .defaults; announced = 0 }
+asGrade b = record { obligors = b .obligors .0; defaults = b .defaults; announced = 0 }
 
 abbrev pub pooledScale : Table → Table
 pooledScale t = map asGrade (blocks t)
@@ -53,7 +58,7 @@ Rising (b ∷ c ∷ bs) = RateBelow b c × Rising (c ∷ bs)
 
 -- some grades as one block
 abbrev pub blockOf : Table → Block
-blockOf t = record { grades = length t; obligors = obligorsIn t; defaults = defaultsIn t }
+blockOf t = record { grades = length t; obligors = record { 0 = obligorsIn t }; defaults = defaultsIn t }
 
 -- The blocks are runs of neighbouring grades that cover the table: each is the block of at least one next grade.
 unfoldable pub Runs : List Block → Table → Type 0

@@ -11,7 +11,7 @@ use Rattle.pooling.specs.Pool.{join, front}
 
 -- k grades with n obligors, d of whom defaulted
 abbrev pub block : ℕ → ℕ → ℕ → Block
-block k n d = record { grades = k; obligors = n; defaults = d }
+block k n d = record { grades = k; obligors = record { 0 = n }; defaults = d }
 
 -- The blocks as the code makes them from the worst grade to the best. An occupied grade also stands for the empty ones behind it: this many
 -- in front of t wait for a better occupied one,
@@ -28,7 +28,7 @@ behindWaiting (r ∷ t) =
 -- k grades more, all empty, for the first of some blocks
 unfoldable pub lengthened : ℕ → List Block → List Block
 lengthened k [] = []
-lengthened k (b ∷ bs) = block (k + b .grades) (b .obligors) (b .defaults) ∷ bs
+lengthened k (b ∷ bs) = block (k + b .grades) (b .obligors .0) (b .defaults) ∷ bs
 
 -- The blocks of t, `grades` counting all that have a block's numbers: those that still wait at the end are counted to the best.
 abbrev pub spanning : Table → List Block
@@ -41,20 +41,20 @@ sumOf (b ∷ bs) = join b (sumOf bs)
 
 -- the counts of a block fit in 32 bits
 abbrev pub Fitting : Block → Type 0
-Fitting b = (b .grades ≤ largest) × (b .obligors ≤ largest) × (b .defaults ≤ largest)
+Fitting b = (b .grades ≤ largest) × (b .obligors .0 ≤ largest) × (b .defaults ≤ largest)
 
 -- the words of blocks
 unfoldable pub blockWords : List Block → List ℕ
 blockWords [] = []
-blockWords (b ∷ bs) = b .grades ∷ b .obligors ∷ b .defaults ∷ blockWords bs
+blockWords (b ∷ bs) = b .grades ∷ b .obligors .0 ∷ b .defaults ∷ blockWords bs
 
 -- the block in the three words from `at` on
 abbrev pub blockAt : List ℕ → ℕ → Block
-blockAt w at = record { grades = getD w at 0; obligors = getD w (at + 1) 0; defaults = getD w (at + 2) 0 }
+blockAt w at = block (getD w at 0) (getD w (at + 1) 0) (getD w (at + 2) 0)
 
 -- the blocks read back from words
 unfoldable pub blocksIn : List ℕ → List Block
 blocksIn [] = []
 blocksIn (g ∷ []) = []
 blocksIn (g ∷ n ∷ []) = []
-blocksIn (g ∷ n ∷ d ∷ w) = record { grades = g; obligors = n; defaults = d } ∷ blocksIn w
+blocksIn (g ∷ n ∷ d ∷ w) = block g n d ∷ blocksIn w

@@ -50,7 +50,7 @@ pub record IsRegression (t : Table) (p : List Fraction) : Type 0 where
 
 -- the rate of a block
 abbrev pub rateOf : Block → Fraction
-rateOf b = ratio (b .defaults) (b .obligors)
+rateOf b = ratio (b .defaults) (b .obligors .0)
 
 -- Each grade of a block gets the block's rate.
 unfoldable pub ratesIn : List Block → List Fraction

@@ -12,14 +12,16 @@ ghost use Rattle.pooling.specs.Limits.{listedLimits};
 ghost use Rattle.pooling.specs.Numbers.{gradesOf, pooledInto};
 ghost use Rattle.pooling.specs.Claims.{Claims};
 use table::DEFAULTS;
+use table::Obligors;
 use table::PPM;
 use table::grades_of;
+use table::obligors_at;
 
 // A run of neighbouring grades: how many, their obligors and their defaults. Where `blocks_of` stores it, all grades that have its numbers are
 // counted, the empty ones too.
 pub struct Block {
     pub grades: u32,
-    pub obligors: u32,
+    pub obligors: Obligors,
     pub defaults: u32,
 }
 
@@ -45,13 +47,13 @@ impl Block {
     // This block and the next as one.
     fn joined(self, next: Block) -> Block
         requires grades { ⌜ self .grades + next .grades ≤ largest ⌝ }
-        requires obligors { ⌜ self .obligors + next .obligors ≤ largest ⌝ }
+        requires obligors { ⌜ self .obligors .0 + next .obligors .0 ≤ largest ⌝ }
         requires defaults { ⌜ self .defaults + next .defaults ≤ largest ⌝ }
         ensures { λ r. ⌜ r ≡ join self next ⌝ }
     {
         Block {
             grades: self.grades + next.grades,
-            obligors: self.obligors + next.obligors,
+            obligors: self.obligors.plus(next.obligors),
             defaults: self.defaults + next.defaults,
         }
     }
@@ -60,8 +62,8 @@ impl Block {
     fn is_below(self, next: Block) -> bool
         ensures { λ r. ⌜ r ≡ rateBelow self next ⌝ }
     {
-        (self.defaults as u64) * (next.obligors as u64)
-            < (next.defaults as u64) * (self.obligors as u64)
+        (self.defaults as u64) * (next.obligors.0 as u64)
+            < (next.defaults as u64) * (self.obligors.0 as u64)
     }
 
     // The band of the default rate, which is at most `most`: searched downwards from there in the lent list of limits. Rate and limits are
@@ -74,7 +76,7 @@ impl Block {
         let rate = (self.defaults as u64) * (PPM as u64);
         let mut b = most;
         while 0 < b {
-            if (limits[b - 1] as u64) * (self.obligors as u64) < rate {
+            if (limits[b - 1] as u64) * (self.obligors.0 as u64) < rate {
                 return b;
             }
             b -= 1;
@@ -93,7 +95,7 @@ pub fn block_at(words: &[u32], at: usize) -> Block
 {
     Block {
         grades: words[at],
-        obligors: words[at + 1],
+        obligors: obligors_at(words, at + 1),
         defaults: words[at + 2],
     }
 }
@@ -101,10 +103,10 @@ pub fn block_at(words: &[u32], at: usize) -> Block
 // Stores a block in the three numbers from `at` on.
 fn store_block(items: &mut [u32; BLOCKS], at: usize, b: Block)
     requires { ⌜ (length (now items) ≡ 120) × (at + 3 ≤ 120) ⌝ }
-    ensures { λ _. ⌜ drop at (now (items .exit)) ≡ b .grades ∷ b .obligors ∷ b .defaults ∷ drop (at + 3) (now (items .entry)) ⌝ }
+    ensures { λ _. ⌜ drop at (now (items .exit)) ≡ b .grades ∷ b .obligors .0 ∷ b .defaults ∷ drop (at + 3) (now (items .entry)) ⌝ }
 {
     items[at + 2] = b.defaults;
-    items[at + 1] = b.obligors;
+    items[at + 1] = b.obligors.0;
     items[at] = b.grades;
 }
 
@@ -147,8 +149,8 @@ pub fn blocks_of(place: &[u32], items: &mut [u32; BLOCKS]) -> usize
     let mut at = BLOCKS;
     while 0 < i {
         i -= 1;
-        let obligors = place[i];
-        if obligors == 0 {
+        let obligors = obligors_at(place, i);
+        if obligors.0 == 0 {
             grades += 1;
         } else {
             let b = Block {
@@ -178,7 +180,7 @@ fn write_block(x: Block, band: u32, end: usize, out: &mut [u32])
     while k < x.grades {
         at -= NUMBERS;
         out[at + 2] = band;
-        out[at + 1] = x.obligors;
+        out[at + 1] = x.obligors.0;
         out[at] = x.defaults;
         k += 1;
     }

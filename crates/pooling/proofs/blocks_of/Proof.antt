@@ -1,7 +1,7 @@
 -- `blocks_of` meets its contract. The invariant: one less than `grades` empty grades wait at the front of those from grade i on, and the blocks
 -- behind them are stored from `at` on.
 use Prim.Native.Nat.{ℕ, _+_, _-_, _*_, _≤_, _<_}
-use mathlib.Core.Path.{_≡_, refl, sym, ap, _∙_}
+use mathlib.Core.Path.{_≡_, refl, ap, _∙_}
 use mathlib.Core.List.{List}
 use native.Mathlib.Omega.{arith}
 use denote.Ref.{now}
@@ -49,16 +49,16 @@ module _ {w items : List ℕ} {i grades at : ℕ} (holds : HoldsTable w) (inv : 
   back : blocksIn (drop at items) ≡ behindWaiting (suffix p i)
   back = ap blocksIn (inv .stored) ∙ blocks-back (behindWaiting (suffix p i))
 
-  -- The next grade.
-  module _ (pos : 0 < i) where
+  -- The next grade, and its obligors.
+  module _ (pos : 0 < i) (n : ℕ) (its : n ≡ getD w (i - 1) 0) where
     here : Turn w i
     here = turn w i holds pos (inv .inside)
 
     -- It is empty, and waits.
-    empty : getD w (i - 1) 0 ≡ 0 → Climbed p items (i - 1) (grades + 1) at
+    empty : n ≡ 0 → Climbed p items (i - 1) (grades + 1) at
     unfolding waiting behindWaiting
     empty e =
-        let none = is-empty (gradeAt p (i - 1)) (sym (here .obligors) ∙ e) in
+        let none = is-empty (gradeAt p (i - 1)) (omega (arith, here .obligors)) in
         record {
           inside = omega (arith, inv .inside);
           room = omega (arith, inv .room);
@@ -69,9 +69,9 @@ module _ {w items : List ℕ} {i grades at : ℕ} (holds : HoldsTable w) (inv : 
         }
 
     -- It is occupied, and its block is put before the others.
-    module _ (some : 1 ≤ getD w (i - 1) 0) where
+    module _ (some : 1 ≤ n) where
       abbrev next : Block
-      next = block grades (getD w (i - 1) 0) (getD w (40 + (i - 1)) 0)
+      next = block grades n (getD w (40 + (i - 1)) 0)
 
       fits : Fitting (join next (sumOf (blocksIn (drop at items))))
       unfolding obligorsIn defaultsIn
@@ -87,7 +87,7 @@ module _ {w items : List ℕ} {i grades at : ℕ} (holds : HoldsTable w) (inv : 
           let is = is-occupied (gradeAt p (i - 1)) (omega (arith, here .obligors)) in
           let rest = behindWaiting (suffix p i) in
           let same : next ≡ block (waiting (suffix p i) + 1) (gradeAt p (i - 1) .obligors) (gradeAt p (i - 1) .defaults) =
-          rw (inv .waits, here .obligors, here .defaults) refl in
+          rw (inv .waits, its, here .obligors, here .defaults) refl in
           let n = front-length next rest in
           let now-held = rw back at e in
           let one = count-words new r (front next rest) now-held in
@@ -153,15 +153,19 @@ near c = let h = begun (c .before) .pre .0 in (omega (arith, c .before .loop .in
 
 loop-again : tie.Need-loop-again Inv-loop μ-loop
 loop-again c =
-    let l = c .before .before .before in
-    empty (begun l .pre .0) (l .loop .inv) (omega arith) (c .if1 .taken)
+    let n = c .before .before in
+    let l = n .before .before in
+    empty (begun l .pre .0) (l .loop .inv) (omega arith) _ (n .obligors-at .ensures) (c .if1 .taken)
 
 -- The block that is put before the others.
-module _ (c : tie.After-shared-slice-known3 Inv-loop μ-loop) where
-  abbrev head : tie.At-loop Inv-loop μ-loop
-  head = c .before .before .before .before
+module _ (c : tie.After-shared-slice-known2 Inv-loop μ-loop) where
+  abbrev taken : tie.After-obligors-at Inv-loop μ-loop
+  taken = c .before .before .before
 
-  some-here : 1 ≤ getD (now (begun head .args .place)) (head .loop .i - 1) 0
+  abbrev head : tie.At-loop Inv-loop μ-loop
+  head = taken .before .before
+
+  some-here : 1 ≤ taken .obligors-at .result .0
   some-here = omega (arith, c .before .if1 .left)
 
 put-before-requires : tie.Need-put-before-requires Inv-loop μ-loop
@@ -170,13 +174,15 @@ put-before-requires c κs =
     let l = head k in
     let inv = l .loop .inv in
     let h = begun l .pre .0 in
-    ((inv .long, omega (arith, inv .room), inv .short), (rw (back h inv) (inv .stored), fits h inv (omega arith) (some-here k)))
+    ((inv .long, omega (arith, inv .room), inv .short), (rw (back h inv) (inv .stored), fits h inv (omega arith) _ (taken k .obligors-at .ensures) (some-here k)))
 
 loop-again-2 : tie.Need-loop-again-2 Inv-loop μ-loop
 loop-again-2 c =
     let k = c .before .before in
     let l = head k in
-    occupied (begun l .pre .0) (l .loop .inv) (omega arith) (some-here k) _ _ (c .put-before .ensures .0) (c .put-before .ensures .1)
+    occupied (begun l .pre .0) (l .loop .inv) (omega arith) _ (taken k .obligors-at .ensures) (some-here k) _ _
+    (c .put-before .ensures .0)
+    (c .put-before .ensures .1)
 
 -- After the loop.
 module _ (c : tie.After-loop Inv-loop μ-loop) where
@@ -204,14 +210,13 @@ blocks-of-spec =
     (λ c κs. c .before .pre .0 .long)
     loop-holds
     (λ c. omega arith)
-    (λ c. let w = near c in omega arith)
-    (λ c. let w = near (c .before) in omega arith)
-    (λ c. let w = few-wait (begun (c .before .before .before) .pre .0) (c .before .before .before .loop .inv) in omega arith)
+    (λ c κs. let w = near c in omega arith)
+    (λ c. let l = c .before .before .before .before in let w = few-wait (begun l .pre .0) (l .loop .inv) in omega arith)
     (λ c. omega arith)
     loop-again
-    (λ c. let w = near (c .before .before) in omega arith)
-    (λ c. let w = near (c .before .before) in omega arith)
     (λ c. let w = near (c .before .before .before) in omega arith)
+    (λ c. let w = near (c .before .before .before) in omega arith)
+    (λ c. let w = near (c .before .before .before .before) in omega arith)
     put-before-requires
     (λ c. omega arith)
     loop-again-2

@@ -64,7 +64,7 @@ module _ {all : List Block} {b : Block} {items : List ℕ} {at : ℕ} (inv : Joi
   alone h = let n = no-block items at (inv .rest) (inv .stored) (omega (arith, inv .long)) in rw n (rw n at (inv .same))
 
   -- The block in hand is stored: `new` are the items then.
-  module _ (new : List ℕ) (put : drop (at - 3) new ≡ b .grades ∷ b .obligors ∷ b .defaults ∷ drop (at - 3 + 3) items) where
+  module _ (new : List ℕ) (put : drop (at - 3) new ≡ b .grades ∷ b .obligors .0 ∷ b .defaults ∷ drop (at - 3 + 3) items) where
     words : drop (at - 3) new ≡ blockWords (b ∷ inv .rest)
     unfolding blockWords
     words = let e : at - 3 + 3 ≡ at = omega (arith, inv .room) in rw (e, inv .stored) at put

@@ -40,7 +40,7 @@ loop-again c =
       within = omega arith;
       same =
           rw (add-one (a .loop .k), a .loop .inv .same, a .before .pre .0)
-          (put-three (z .out .now) rest (a .loop .at) (a .loop .at - 3) (z .x .defaults) (z .x .obligors) (bandOf (z .x)) (omega arith) (omega arith));
+          (put-three (z .out .now) rest (a .loop .at) (a .loop .at - 3) (z .x .defaults) (z .x .obligors .0) (bandOf (z .x)) (omega arith) (omega arith));
     }
 
 returns : tie.Need-returns Inv-loop μ-loop
