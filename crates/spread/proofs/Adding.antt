@@ -35,7 +35,7 @@ module _ (passed : List Block) (b : Block) (rest : List Block) (scale : IsScale 
       let s = every-split P (map asGrade passed) (map asGrade (b ∷ rest)) (rw map-append at h) in
       (s .0, s .1 .0)
 
-  next-counts : Occupied (asGrade b) × Counted (asGrade b) × (b .obligors ≤ 1_000_000)
+  next-counts : Occupied (asGrade b) × Counted (asGrade b) × (b .obligors .0 ≤ 1_000_000)
   unfolding obligorsIn
   next-counts = (
     every-here Occupied (scale .1) .1,
@@ -68,7 +68,7 @@ module _ (blocks : List Block) (scale : IsScale blocks) where
   }
 
   module _ (b : Block) (rest : List Block) (t : Float) (a : Added blocks (b ∷ rest) t) where
-    pub counts : Occupied (asGrade b) × Counted (asGrade b) × (b .obligors ≤ 1_000_000)
+    pub counts : Occupied (asGrade b) × Counted (asGrade b) × (b .obligors .0 ≤ 1_000_000)
     counts = next-counts (a .passed) b rest (rw (a .split) scale)
 
     pub step : (q : Float) → Near q (residualOf b) (units 1) → Added blocks rest (add binary64 t q)

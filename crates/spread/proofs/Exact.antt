@@ -50,15 +50,15 @@ residual-proper (b ∷ bs) h = mul-pos (h .0) (residual-proper bs (h .1))
 not-negative : (bs : List Block) → AtMost nought (residualSum bs)
 unfolding residualSum nought sum ratio
 not-negative [] = omega arith
-not-negative (b ∷ bs) = omega (arith, mul-le-mul-right (b .obligors) (not-negative bs))
+not-negative (b ∷ bs) = omega (arith, mul-le-mul-right (b .obligors .0) (not-negative bs))
 
 residual-quarter : (bs : List Block) → Every Counted (map asGrade bs) → AtMost (residualSum bs) (ratio (obligorsIn (map asGrade bs)) 4)
 unfolding residualSum nought sum ratio obligorsIn
 residual-quarter [] h = omega arith
 residual-quarter (b ∷ bs) h =
-    let all : b .defaults + (b .obligors - b .defaults) ≡ b .obligors = omega arith in
-    let here = rw all at (product-le (b .defaults) (b .obligors - b .defaults) (b .obligors) (omega arith)) in
-    omega (arith, mul-le-mul-right (residualSum bs .over) here, mul-le-mul-right (b .obligors) (residual-quarter bs (h .1)))
+    let all : b .defaults + (b .obligors .0 - b .defaults) ≡ b .obligors .0 = omega arith in
+    let here = rw all at (product-le (b .defaults) (b .obligors .0 - b .defaults) (b .obligors .0) (omega arith)) in
+    omega (arith, mul-le-mul-right (residualSum bs .over) here, mul-le-mul-right (b .obligors .0) (residual-quarter bs (h .1)))
 
 million : (x : Fraction) (n : ℕ) → n ≤ 1_000_000 → AtMost x (ratio n 4) → AtMost x (ratio 250_000 1)
 unfolding ratio

@@ -14,7 +14,7 @@ totalOf t = ratio (defaultsIn t * survivorsIn t) (obligorsIn t)
 
 -- block defaults times block survivors over block obligors
 abbrev pub residualOf : Block → Fraction
-residualOf b = ratio (b .defaults * (b .obligors - b .defaults)) (b .obligors)
+residualOf b = ratio (b .defaults * (b .obligors .0 - b .defaults)) (b .obligors .0)
 
 -- "The exact sum over blocks of block defaults times block survivors over block obligors."
 unfoldable pub residualSum : List Block → Fraction

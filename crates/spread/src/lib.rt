@@ -44,7 +44,7 @@ fn residual(items: &[u32]) -> f64
     let mut at: usize = 0;
     while at < items.len() {
         let x = block_at(items, at);
-        sum = sum + quotient(x.defaults, Obligors(x.obligors));
+        sum = sum + quotient(x.defaults, x.obligors);
         at += 3;
     }
     sum
