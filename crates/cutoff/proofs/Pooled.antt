@@ -67,12 +67,12 @@ exchange u v d s d′ s′ h =
 
 -- Odds of default, defaults to survivors, compare as rates do: the products differ by the same.
 pub odds-as-rates : (b c : Block) → Counted (asGrade b) → Counted (asGrade c)
-    → c .defaults * b .obligors + b .defaults * survivors (asGrade c) ≡ b .defaults * c .obligors + c .defaults * survivors (asGrade b)
+    → c .defaults * b .obligors .0 + b .defaults * survivors (asGrade c) ≡ b .defaults * c .obligors .0 + c .defaults * survivors (asGrade b)
 odds-as-rates b c p q =
     omega (
       arith,
-      mul-sub (c .defaults) (b .obligors) (b .defaults),
-      mul-sub (b .defaults) (c .obligors) (c .defaults),
+      mul-sub (c .defaults) (b .obligors .0) (b .defaults),
+      mul-sub (b .defaults) (c .obligors .0) (c .defaults),
       mul-le-mul-left (c .defaults) p,
       mul-le-mul-left (b .defaults) q,
     )

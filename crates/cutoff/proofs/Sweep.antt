@@ -49,8 +49,8 @@ module _ {w : List ℕ} {from k : ℕ} (t : Turn w from k) {x : Block} (e : x �
   pub turn-block : asGrade x ≡ gradeBefore (scaleIn w) k
   turn-block = ap asGrade e ∙ t .words .here
 
-  pub turn-counted : Counted (asGrade x) × (x .obligors ≤ 1_000_000)
-  turn-counted = (rw turn-block (t .here .counted), omega (arith, ap (λ (r : Grade). r .obligors) turn-block, t .few))
+  pub turn-counted : Counted (asGrade x) × (x .obligors .0 ≤ 1_000_000)
+  turn-counted = (rw (← turn-block) at (t .here .counted), omega (arith, ap (λ (r : Grade). r .obligors) turn-block, t .few))
 
   pub turn-counts : (weights : Weights) {c : Counts} → c ≡ countsIn weights (asGrade x) → c ≡ countsIn weights (gradeBefore (scaleIn w) k)
   turn-counts weights f = f ∙ ap (λ (g : Grade). countsIn weights g) turn-block
@@ -302,7 +302,7 @@ module _ {w₁ w₂ : Weights} {t₁ t₂ : Table} {i : ℕ} {l : Lead} (known :
         let d = ap (λ (g : Grade). g .defaults) e in
         let s = ap (λ (g : Grade). survivors g) e in
         record {
-          counted = rw e (here .counted);
+          counted = rw (← e) at (here .counted);
           few-defaults = omega (arith, d, here .few-defaults);
           few-survivors = omega (arith, s, here .few-survivors);
           more = rw (s, d) more;

@@ -78,7 +78,7 @@ cost-times k (r ∷ t) u v =
 -- Its blocks.
 
 abbrev weighBlock : ℕ → ℕ → Block → Block
-weighBlock a b x = record { grades = x .grades; obligors = a * x .defaults + b * survivors (asGrade x); defaults = a * x .defaults }
+weighBlock a b x = record { grades = x .grades; obligors = record { 0 = a * x .defaults + b * survivors (asGrade x) }; defaults = a * x .defaults }
 
 weigh-join : (a b : ℕ) (x y : Block) → Counted (asGrade x) → Counted (asGrade y)
     → join (weighBlock a b x) (weighBlock a b y) ≡ weighBlock a b (join x y)
@@ -92,8 +92,8 @@ weigh-join a b x y p q =
 
 -- The rates of two blocks differ, multiplied out, a b times as much in the weights as before.
 weigh-rates : (a b : ℕ) (x y : Block) → Counted (asGrade x) → Counted (asGrade y)
-    → weighBlock a b x .defaults * weighBlock a b y .obligors + y .defaults * x .obligors * (a * b)
-    ≡ weighBlock a b y .defaults * weighBlock a b x .obligors + x .defaults * y .obligors * (a * b)
+    → weighBlock a b x .defaults * weighBlock a b y .obligors .0 + y .defaults * x .obligors .0 * (a * b)
+    ≡ weighBlock a b y .defaults * weighBlock a b x .obligors .0 + x .defaults * y .obligors .0 * (a * b)
 weigh-rates a b x y p q = omega (arith, times-eq (a * b) (odds-as-rates x y p q))
 
 module _ (a b : ℕ) (a-pos : 1 ≤ a) (b-pos : 1 ≤ b) where

@@ -20,7 +20,6 @@ use pooling::Block;
 use pooling::block_at;
 use pooling::blocks_of;
 use table::DEFAULTS;
-use table::Obligors;
 use table::Survivors;
 use table::grades_of;
 use table::obligors_at;
@@ -77,7 +76,7 @@ impl Price {
         ensures { λ r. ⌜ r ≡ priceIn other b ⌝ }
     {
         Price {
-            u: Obligors(b.obligors).survivors(b.defaults).0 * other.defaults,
+            u: b.obligors.survivors(b.defaults).0 * other.defaults,
             v: b.defaults * other.survivors.0,
         }
     }
@@ -106,10 +105,10 @@ impl Weights {
     // What a block counts in these weights.
     fn counts(self, b: Block) -> Counts
         requires light { ⌜ Light self ⌝ }
-        requires counted { ⌜ Counted (asGrade b) × (b .obligors ≤ 1_000_000) ⌝ }
+        requires counted { ⌜ Counted (asGrade b) × (b .obligors .0 ≤ 1_000_000) ⌝ }
         ensures { λ r. ⌜ r ≡ countsIn self (asGrade b) ⌝ }
     {
-        let lost = Obligors(b.obligors).survivors(b.defaults);
+        let lost = b.obligors.survivors(b.defaults);
         Counts {
             defaults: (self.defaults as u64) * (b.defaults as u64),
             survivors: (self.survivors.0 as u64) * (lost.0 as u64),

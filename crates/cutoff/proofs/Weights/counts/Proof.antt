@@ -5,11 +5,11 @@ use Rattle.table.proofs.Arithmetic.{counts-fit}
 use Rattle.cutoff.proofs.Weights.counts.Statement.{statement}
 use Rattle.cutoff.proofs.Weights.counts.Tie as tie
 
-mul-t7 : tie.Need-mul-t7
-mul-t7 c = let p = c .before .before .before .pre in counts-fit (omega (arith, p .0)) (omega (arith, p .1))
+mul-t6 : tie.Need-mul-t6
+mul-t6 c = let p = c .before .before .before .pre in counts-fit (omega (arith, p .0)) (omega (arith, p .1))
 
-mul-t10 : tie.Need-mul-t10
-mul-t10 c =
+mul-t9 : tie.Need-mul-t9
+mul-t9 c =
     let a = c .before .before .before .before in
     let p = a .before .pre in
     counts-fit (omega (arith, p .0)) (omega (arith, a .survivors .ensures, p .1))
@@ -24,8 +24,8 @@ counts-spec =
     (λ c κs. search needs)
     (λ c. search needs)
     (λ c. search needs)
-    mul-t7
+    mul-t6
     (λ c. search needs)
     (λ c. search needs)
-    mul-t10
+    mul-t9
     returns)
