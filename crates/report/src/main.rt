@@ -12,6 +12,8 @@ use print::signed;
 use print::text;
 use refusals::BOOK_LENGTH;
 use table::GRADES;
+use table::Obligors;
+use table::obligors_at;
 
 // The longest book that it takes, in bytes.
 const INPUT: usize = 8_192;
@@ -26,10 +28,10 @@ fn refused(n: u32) {
     text(b"\n");
 }
 
-fn grade(g: usize, defaults: u32, obligors: u32, band: u32) {
+fn grade(g: usize, defaults: u32, obligors: Obligors, band: u32) {
     number(g as u64);
     labelled(b" ", defaults as u64);
-    labelled(b" ", obligors as u64);
+    labelled(b" ", obligors.0 as u64);
     labelled(b" ", band as u64);
     text(b"\n");
 }
@@ -43,7 +45,7 @@ fn grades(pooled: [u32; NUMBERS * GRADES], count: usize)
         grade(
             i + 1,
             pooled[NUMBERS * i],
-            pooled[NUMBERS * i + 1],
+            obligors_at(&pooled, NUMBERS * i + 1),
             pooled[NUMBERS * i + 2],
         );
         i += 1;
