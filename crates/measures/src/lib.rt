@@ -1,5 +1,5 @@
 // The measures of a rating scale: Gini, the curve areas, Pietra, and the Brier score of the announced rates.
-ghost use Prim.Native.Nat.{_*_, _≤_};
+ghost use Prim.Native.Nat.{_+_, _-_, _*_, _≤_};
 ghost use mathlib.Core.Path.{_≡_};
 ghost use lib.IntN.{subℕ, natAbs};
 ghost use Rattle.table.specs.Table.{defaultsIn, survivorsIn};
@@ -14,6 +14,7 @@ use table::Obligors;
 use table::PPM;
 use table::Survivors;
 use table::grades_of;
+use table::obligors_at;
 
 // A fraction as document 01 writes it, not reduced.
 pub struct UnsignedFraction {
@@ -51,10 +52,18 @@ struct FarthestCutoff {
     height: i64,
 }
 
-fn product(a: u32, b: u32) -> u64
-    ensures { λ r. ⌜ r ≡ a * b ⌝ }
+// How many pairs of a default and a survivor there are.
+fn pairs_of(defaults: u32, survivors: Survivors) -> u64
+    ensures { λ r. ⌜ r ≡ defaults * survivors .0 ⌝ }
 {
-    (a as u64) * (b as u64)
+    (defaults as u64) * (survivors.0 as u64)
+}
+
+// How many of a default and an obligor: the CAP curve is over all obligors.
+fn profile_of(defaults: u32, obligors: Obligors) -> u64
+    ensures { λ r. ⌜ r ≡ defaults * obligors .0 ⌝ }
+{
+    (defaults as u64) * (obligors.0 as u64)
 }
 
 fn difference(a: u64, b: u64) -> i64
@@ -84,9 +93,9 @@ fn count_pairs(place: &[u32]) -> PairCounts
     while 0 < i {
         i -= 1;
         let d = place[DEFAULTS + i];
-        let s = Obligors(place[i]).survivors(d);
-        concordant += product(s.0, defaulted);
-        discordant += product(d, survivors.0);
+        let s = obligors_at(place, i).survivors(d);
+        concordant += pairs_of(defaulted, s);
+        discordant += pairs_of(d, survivors);
         defaulted += d;
         survivors = survivors.plus(s);
     }
@@ -116,10 +125,10 @@ fn farthest(place: &[u32], defaulted: u32, survivors: Survivors) -> FarthestCuto
         i -= 1;
         let d = place[DEFAULTS + i];
         caught += d;
-        lost = lost.plus(Obligors(place[i]).survivors(d));
+        lost = lost.plus(obligors_at(place, i).survivors(d));
         // The ROC curve and the diagonal at this cutoff, times D S.
-        let curve = product(caught, survivors.0);
-        let diagonal = product(lost.0, defaulted);
+        let curve = pairs_of(caught, survivors);
+        let diagonal = pairs_of(defaulted, lost);
         let here = apart(curve, diagonal);
         if distance < here {
             distance = here;
@@ -139,8 +148,8 @@ pub fn measure(place: &[u32]) -> Measures
     let defaulted = counts.defaults;
     let survivors = counts.survivors;
     let top = farthest(place, defaulted, survivors);
-    let pairs = product(defaulted, survivors.0);
-    let profile = product(defaulted, survivors.with_defaults(defaulted).0);
+    let pairs = pairs_of(defaulted, survivors);
+    let profile = profile_of(defaulted, survivors.with_defaults(defaulted));
     Measures {
         defaults: defaulted,
         survivors,
@@ -165,12 +174,20 @@ pub fn measure(place: &[u32]) -> Measures
     }
 }
 
-// The square of a difference in ppm, once for each of so many obligors.
-fn squares(count: u32, ppm: u32) -> u64
-    requires { ⌜ (count ≤ 1_000_000) × (ppm ≤ 1_000_000) ⌝ }
-    ensures { λ r. ⌜ r ≡ count * (ppm * ppm) ⌝ }
+// The square of a difference in ppm.
+fn square(ppm: u32) -> u64
+    ensures { λ r. ⌜ r ≡ ppm * ppm ⌝ }
 {
-    (count as u64) * product(ppm, ppm)
+    (ppm as u64) * (ppm as u64)
+}
+
+// The squares of a grade: for each default of what the announced rate is short of all, and for each survivor of the rate itself.
+fn squares(defaults: u32, survivors: Survivors, rate: u32) -> u64
+    requires { ⌜ (defaults + survivors .0 ≤ 1_000_000) × (rate ≤ 1_000_000) ⌝ }
+    ensures { λ r. ⌜ r ≡ defaults * ((1_000_000 - rate) * (1_000_000 - rate)) + survivors .0 * (rate * rate) ⌝ }
+{
+    let short = PPM - rate;
+    (defaults as u64) * square(short) + (survivors.0 as u64) * square(rate)
 }
 
 // The Brier score of the announced rates of the table in a lent place.
@@ -183,12 +200,10 @@ pub fn brier(place: &[u32]) -> UnsignedFraction
     let mut sum: u64 = 0;
     while 0 < i {
         i -= 1;
-        let n = Obligors(place[i]);
+        let n = obligors_at(place, i);
         let d = place[DEFAULTS + i];
         let s = n.survivors(d);
-        let rate = place[ANNOUNCED + i];
-        let short = PPM - rate;
-        sum += squares(d, short) + squares(s.0, rate);
+        sum += squares(d, s, place[ANNOUNCED + i]);
         all = all.plus(n);
     }
     UnsignedFraction {

@@ -42,43 +42,43 @@ at c = turn _ _ (c .before .before .before .before .pre) (c .loop-test .taken) (
 
 squares-requires : tie.Need-squares-requires Inv-loop μ-loop
 unfolding obligorsIn
-squares-requires c κs = let f = at (c .before .before .before .before) in omega arith
-
-squares-requires-2 : tie.Need-squares-requires-2 Inv-loop μ-loop
-unfolding obligorsIn
-squares-requires-2 c κs = let f = at (c .before .before .before .before .before) in omega (arith, c .before .before .survivors .ensures)
+squares-requires c κs =
+    let f = at (c .before .before .before .before) in
+    (omega (arith, c .before .survivors .ensures, c .before .before .before .obligors-at .ensures), omega arith)
 
 -- What a turn adds to the squares.
-added : (c : tie.After-squares2 Inv-loop μ-loop) →
-    let l = c .before .before .before .before .before .before .before in
-    c .before .squares .result + c .squares2 .result ≡ brierAt (gradeAt (placeIn (now (l .before .before .before .args .place))) (l .loop .i - 1))
+added : (c : tie.After-squares Inv-loop μ-loop) →
+    let l = c .before .before .before .before .before .before in
+    c .squares .result ≡ brierAt (gradeAt (placeIn (now (l .before .before .before .args .place))) (l .loop .i - 1))
 added c =
-    let f = at (c .before .before .before .before .before .before) in
-    let l = c .before .before .before .before .before .before .before in
+    let f = at (c .before .before .before .before .before) in
+    let l = c .before .before .before .before .before .before in
     let p = getD (now (l .before .before .before .args .place)) (80 + (l .loop .i - 1)) 0 in
-    let s = times-eq (p * p) (c .before .before .before .survivors .ensures) in
-    rw (← f .obligors, ← f .defaults, ← f .announced) (omega (arith, c .before .squares .ensures, c .squares2 .ensures))
+    let n = c .before .before .before .before .obligors-at .ensures in
+    let s = times-eq (p * p) (rw n at (c .before .before .survivors .ensures)) in
+    rw (← f .obligors, ← f .defaults, ← f .announced) (omega (arith, c .squares .ensures))
 
-add-sum-2 : tie.Need-add-sum-2 Inv-loop μ-loop
+add-sum : tie.Need-add-sum Inv-loop μ-loop
 unfolding obligorsIn
-add-sum-2 c =
-    let f = at (c .before .before .before .before .before .before) in
+add-sum c =
+    let f = at (c .before .before .before .before .before) in
     let l = brier-at-le _ (f .counted) (f .rated) in
     omega (arith, added c)
 
 plus-requires : tie.Need-plus-requires Inv-loop μ-loop
 unfolding obligorsIn
-plus-requires c κs = let f = at (c .before .before .before .before .before .before) in omega arith
+plus-requires c κs =
+    let f = at (c .before .before .before .before .before) in omega (arith, c .before .before .before .before .obligors-at .ensures)
 
 loop-again : tie.Need-loop-again Inv-loop μ-loop
 unfolding obligorsIn brierSum
 loop-again c =
-    let f = at (c .before .before .before .before .before .before .before) in
+    let f = at (c .before .before .before .before .before .before) in
     let l = brier-at-le _ (f .counted) (f .rated) in
     let e = added (c .before) in
     record {
       inside = search needs;
-      all-obligors = rw (f .down) (omega (arith, c .plus .ensures));
+      all-obligors = rw (f .down) (omega (arith, c .plus .ensures, c .before .before .before .before .before .obligors-at .ensures));
       all-squares = rw (f .down) (omega arith);
       bounded = rw (f .down) (omega arith);
     }
@@ -100,20 +100,16 @@ brier-spec =
     (λ c κs. c .before .pre .long)
     loop-holds
     (λ c. search needs)
-    (λ c. let f = at c in omega arith)
-    (λ c. let f = at (c .before) in omega arith)
+    (λ c κs. let f = at c in omega arith)
     (λ c. let f = at (c .before) in omega arith)
     (λ c. let f = at (c .before) in omega arith)
     (λ c. let f = at (c .before .before) in omega arith)
-    (λ c κs. let f = at (c .before .before) in omega arith)
+    (λ c κs. let f = at (c .before .before) in omega (arith, c .before .obligors-at .ensures))
     (λ c. let f = at (c .before .before .before) in omega arith)
     (λ c. let f = at (c .before .before .before) in omega arith)
-    (λ c. let f = at (c .before .before .before .before) in omega arith)
     (λ c. let f = at (c .before .before .before .before) in omega arith)
     squares-requires
-    squares-requires-2
-    (λ c. omega (arith, add-sum-2 c))
-    add-sum-2
+    add-sum
     plus-requires
     (λ c. search needs)
     loop-again

@@ -52,24 +52,25 @@ at c = turn _ _ (c .before .before .before .before .pre) (c .loop-test .taken) (
 
 -- The pairs that a turn adds.
 
-more-concordant : (c : tie.After-product Inv-loop μ-loop) →
+more-concordant : (c : tie.After-pairs-of Inv-loop μ-loop) →
     let l = c .before .before .before .before .before in
     let p = placeIn (now (l .before .before .before .args .place)) in
-    l .loop .concordant + c .product .result ≡ concordant (gradeAt p (l .loop .i - 1) ∷ suffix p (l .loop .i))
+    l .loop .concordant + c .pairs-of .result ≡ concordant (gradeAt p (l .loop .i - 1) ∷ suffix p (l .loop .i))
 unfolding concordant
 more-concordant c =
     let l = c .before .before .before .before .before in
     let p = placeIn (now (l .before .before .before .args .place)) in
     let f = at (c .before .before .before .before) in
-    let of-s : c .before .survivors .result .0 ≡ survivors (gradeAt p (l .loop .i - 1)) = omega (arith, c .before .survivors .ensures) in
+    let of-s : c .before .survivors .result .0 ≡ survivors (gradeAt p (l .loop .i - 1)) =
+    omega (arith, c .before .survivors .ensures, c .before .before .obligors-at .ensures) in
     let d = times-eq (c .before .survivors .result .0) (l .loop .inv .all-defaults) in
     let s = times-eq (defaultsIn (suffix p (l .loop .i))) of-s in
-    omega (arith, c .product .ensures)
+    omega (arith, c .pairs-of .ensures)
 
-more-discordant : (c : tie.After-product2 Inv-loop μ-loop) →
+more-discordant : (c : tie.After-pairs-of2 Inv-loop μ-loop) →
     let l = c .before .before .before .before .before .before in
     let p = placeIn (now (l .before .before .before .args .place)) in
-    l .loop .discordant + c .product2 .result ≡ discordant (gradeAt p (l .loop .i - 1) ∷ suffix p (l .loop .i))
+    l .loop .discordant + c .pairs-of2 .result ≡ discordant (gradeAt p (l .loop .i - 1) ∷ suffix p (l .loop .i))
 unfolding discordant
 more-discordant c =
     let l = c .before .before .before .before .before .before in
@@ -77,7 +78,7 @@ more-discordant c =
     let f = at (c .before .before .before .before .before) in
     let d = times-eq (survivorsIn (suffix (placeIn w) (l .loop .i))) (f .defaults) in
     let s = times-eq (getD w (40 + (l .loop .i - 1)) 0) (l .loop .inv .all-survivors) in
-    omega (arith, c .product2 .ensures)
+    omega (arith, c .pairs-of2 .ensures)
 
 add-defaulted : tie.Need-add-defaulted Inv-loop μ-loop
 unfolding defaultsIn obligorsIn
@@ -85,7 +86,7 @@ add-defaulted c = let f = at (c .before .before .before .before .before) in omeg
 
 plus-requires : tie.Need-plus-requires Inv-loop μ-loop
 unfolding survivorsIn obligorsIn
-plus-requires c κs = let f = at (c .before .before .before .before .before) in omega (arith, c .before .before .survivors .ensures)
+plus-requires c κs = let f = at (c .before .before .before .before .before) in omega (arith, c .before .before .survivors .ensures, c .before .before .before .obligors-at .ensures)
 
 loop-again : tie.Need-loop-again Inv-loop μ-loop
 unfolding defaultsIn survivorsIn
@@ -94,7 +95,7 @@ loop-again c =
     record {
       inside = search needs;
       all-defaults = rw (f .down) (omega arith);
-      all-survivors = rw (f .down) (omega (arith, c .plus .ensures, c .before .before .before .survivors .ensures));
+      all-survivors = rw (f .down) (omega (arith, c .plus .ensures, c .before .before .before .survivors .ensures, c .before .before .before .before .obligors-at .ensures));
       all-concordant = rw (f .down) (more-concordant (c .before .before));
       all-discordant = rw (f .down) (more-discordant (c .before));
     }
@@ -119,9 +120,8 @@ count-pairs-spec =
     (λ c. let f = at c in omega arith)
     (λ c. let f = at c in omega arith)
     (λ c. let f = at (c .before) in omega arith)
-    (λ c. let f = at (c .before) in omega arith)
-    (λ c. let f = at (c .before .before) in omega arith)
-    (λ c κs. let f = at (c .before .before) in omega arith)
+    (λ c κs. let f = at (c .before) in omega arith)
+    (λ c κs. let f = at (c .before .before) in omega (arith, c .obligors-at .ensures))
     (λ c κs. search needs)
     (λ c. omega (arith, more-concordant c, few-pairs (at (c .before .before .before .before) .here)))
     (λ c κs. search needs)

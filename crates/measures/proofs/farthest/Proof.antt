@@ -54,7 +54,7 @@ record Next (p : Place) (i y : ℕ) (x : Survivors) (a b : ℕ) : Type 0 where
 next : {w : List ℕ} {i y g h far d n a b : ℕ} {x x′ s : Survivors} →
     let p = placeIn w in
     Sound (tableOf p) → (d ≡ defaultsIn (tableOf p)) × (s .0 ≡ survivorsIn (tableOf p)) → 0 < i → Turn w i → Tried p i y x g h far
-    → n ≡ survivors (gradeAt p (i - 1)) → x′ .0 ≡ x .0 + n → a ≡ (y + getD w (40 + (i - 1)) 0) * s .0 → b ≡ x′ .0 * d
+    → n ≡ survivors (gradeAt p (i - 1)) → x′ .0 ≡ x .0 + n → a ≡ (y + getD w (40 + (i - 1)) 0) * s .0 → b ≡ d * x′ .0
     → Next p i (y + getD w (40 + (i - 1)) 0) x′ a b
 unfolding defaultsIn survivorsIn
 next {w} {i} {y} {g} {h} {far} {d} {n} {a} {b} {x} {x′} {s} sound totals up f kept ofN ofX ofA ofB =
@@ -63,7 +63,7 @@ next {w} {i} {y} {g} {h} {far} {d} {n} {a} {b} {x} {x′} {s} sound totals up f 
     let caught : y + getD w (40 + (i - 1)) 0 ≡ defaultsIn (suffix p (i - 1)) = rw (f .down) (omega (arith, kept .caught)) in
     let lost : x′ .0 ≡ survivorsIn (suffix p (i - 1)) = rw (f .down) (omega (arith, kept .lost)) in
     let of-a : a ≡ defaultsIn (suffix p (i - 1)) * survivorsIn (tableOf p) = rw (← caught, ← totals .1) ofA in
-    let of-b : b ≡ survivorsIn (suffix p (i - 1)) * defaultsIn (tableOf p) = rw (← lost, ← totals .0) ofB in
+    let of-b : b ≡ survivorsIn (suffix p (i - 1)) * defaultsIn (tableOf p) = rw (← lost, ← totals .0) (omega (arith, ofB)) in
     let part = few-counts (small p (i - 1) sound inside) in
     let all = few-counts (sound-small sound) in
     record {
@@ -136,20 +136,20 @@ add-caught c = let f = at (c .before) in omega arith
 
 plus-requires : tie.Need-plus-requires Inv-loop μ-loop
 unfolding survivorsIn obligorsIn
-plus-requires c κs = let f = at (c .before .before .before) in omega (arith, c .survivors .ensures)
+plus-requires c κs = let f = at (c .before .before .before) in omega (arith, c .survivors .ensures, c .before .obligors-at .ensures)
 
-reached : (c : tie.After-product2 Inv-loop μ-loop) →
+reached : (c : tie.After-pairs-of2 Inv-loop μ-loop) →
     let l = c .before .before .before .before .before .before .before in
     let w = now (l .before .before .before .args .place) in
     Next (placeIn w) (l .loop .i) (l .loop .caught + getD w (40 + (l .loop .i - 1)) 0)
-    (c .before .before .plus .result) (c .before .product .result) (c .product2 .result)
+    (c .before .before .plus .result) (c .before .pairs-of .result) (c .pairs-of2 .result)
 reached c =
     let turn = c .before .before .before .before .before .before in
     let l = turn .before in
     let pre = l .before .before .before .pre in
     let f = at turn in
     next (pre .0 .sound) (pre .1) (turn .loop-test .taken) f (l .loop .inv)
-    (omega (arith, c .before .before .before .survivors .ensures)) (c .before .before .plus .ensures) (c .before .product .ensures) (c .product2 .ensures)
+    (omega (arith, c .before .before .before .survivors .ensures, c .before .before .before .before .obligors-at .ensures)) (c .before .before .plus .ensures) (c .before .pairs-of .ensures) (c .pairs-of2 .ensures)
 
 difference-requires : tie.Need-difference-requires Inv-loop μ-loop
 difference-requires c κs = let n = reached (c .before .before) in (n .small-a, n .small-b)
@@ -190,9 +190,8 @@ farthest-spec =
     (λ c. let f = at c in omega arith)
     (λ c. let f = at (c .before) in omega arith)
     add-caught
-    (λ c. let f = at (c .before) in omega arith)
-    (λ c. let f = at (c .before .before) in omega arith)
-    (λ c κs. let f = at (c .before .before) in omega arith)
+    (λ c κs. let f = at (c .before) in omega arith)
+    (λ c κs. let f = at (c .before .before) in omega (arith, c .obligors-at .ensures))
     plus-requires
     (λ c κs. search needs)
     (λ c κs. search needs)

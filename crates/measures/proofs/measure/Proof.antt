@@ -68,14 +68,14 @@ farthest-requires c κs =
     let b = c .before .before .before in
     (b .pre, totals (tableIn (now (b .args .place))) (c .before .count-pairs .ensures))
 
-at : (c : tie.After-product2) →
+at : (c : tie.After-profile-of) →
     let a = c .before .before .before .before .before .before .before .args in
     Known (tableIn (now (a .place))) (c .before .before .before .before .before .count-pairs .result)
-    (c .before .before .product .result) (c .product2 .result)
+    (c .before .before .pairs-of .result) (c .profile-of .result)
 at c =
     known (sound-small (c .before .before .before .before .before .before .before .pre .sound))
     (c .before .before .before .before .before .count-pairs .ensures)
-    (c .before .with-defaults .ensures) (c .before .before .product .ensures) (c .product2 .ensures)
+    (c .before .with-defaults .ensures) (c .before .before .pairs-of .ensures) (c .profile-of .ensures)
 
 measures-are : {t : Table} {m : PairCounts} {a b : ℕ} → Known t m a b → (h : FarthestCutoff) → h ≡ farthestOf t
     → (z w : ℤ) → z ≡ subℕ (m .concordant) (m .discordant) → w ≡ h .height
