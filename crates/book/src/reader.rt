@@ -35,7 +35,7 @@ use table::PPM;
 use table::Survivors;
 use table::wipe;
 
-// The first column as obligors, by its kind.
+// The first column as obligors, by its kind. Until then it is a bare number: a count out of a book becomes one of its kind here alone.
 fn obligors_by(kind: usize, column: u32, defaults: u32) -> Obligors
     ensures { λ r. ⌜ r .0 ≡ capped (obligorsBy kind column defaults) ⌝ }
 {
@@ -78,7 +78,7 @@ fn row_fault(r: Row, before: u32) -> u32
     0
 }
 
-// 0, or the number of the first fault of a table whose rows have none and sum to this many obligors.
+// 0, or the number of the first fault of a table whose rows have none and sum to this many obligors, which may be more than an `Obligors` holds.
 fn total_fault(total: u64) -> u32
     ensures { λ n. ⌜ n ≡ fault (sumChecks total) ⌝ }
 {

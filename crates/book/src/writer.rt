@@ -19,9 +19,9 @@ use refusals::PLACE_EMPTY;
 use refusals::SHORT_BUFFER;
 use table::ANNOUNCED;
 use table::DEFAULTS;
-use table::Obligors;
 use table::grades_of;
 use table::is_loaded;
+use table::obligors_at;
 
 // Where one offset behind the head of a book ends, and where two do.
 const ONE_OFFSET_END: usize = HEAD + OFFSET;
@@ -48,8 +48,9 @@ fn put_rows(out: &mut [u8], start: usize, place: &[u32])
     let mut at = start;
     let mut i: usize = 0;
     while i < grades {
+        let obligors = obligors_at(place, i);
         let row = Row {
-            obligors: Obligors(place[i]),
+            obligors,
             defaults: place[DEFAULTS + i],
             announced: place[ANNOUNCED + i],
         };

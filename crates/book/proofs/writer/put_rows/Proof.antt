@@ -56,7 +56,8 @@ loop-again : tie.Need-loop-again Inv-loop μ-loop
 loop-again c =
     let a = c .before .before .before .before .before .before .before in
     let l = a .before .loop in
-    put _ _ _ _ _ _ _ _ (l .inv) (omega arith) (rw (← grade-at _ (l .i) (omega arith)) (c .before .before .put-row .ensures))
+    let n = c .before .before .before .before .before .before .obligors-at .ensures in
+    put _ _ _ _ _ _ _ _ (l .inv) (omega arith) (rw (← grade-at _ (l .i) (omega arith)) (rw n at (c .before .before .put-row .ensures)))
 
 returns : tie.Need-returns Inv-loop μ-loop
 unfolding encodeGrades
@@ -74,8 +75,7 @@ put-rows-spec =
     μ-loop
     (λ c κs. c .before .before .pre .0 .long)
     loop-holds
-    (λ c. omega arith)
-    (λ c. omega arith)
+    (λ c κs. omega arith)
     (λ c. omega arith)
     (λ c. omega arith)
     (λ c. omega arith)
