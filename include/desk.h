@@ -53,7 +53,7 @@
  * version does not link: the linker reports desk_library_is_version_N as undefined, N being the number below. Then take
  * header and library of one version and compile again. Who loads the library at run time by hand, and so does not link with
  * it, defines DESK_LOADED_BY_HAND before this header and compares desk_version() with DESK_VERSION. */
-#define DESK_VERSION 8
+#define DESK_VERSION 9
 
 #define DESK_GRADES 40                       /* the most grades of a table */
 #define DESK_RATERS 16                       /* the most raters of a book, and room for whatever desk_shortlist writes */

@@ -35,7 +35,7 @@ use refusals::NO_PLACE;
 use shortlist::Shortlisted;
 use table::PLACE;
 
-const VERSION: u32 = 8;
+const VERSION: u32 = 9;
 
 // The version of this library.
 #[no_mangle]
@@ -47,7 +47,7 @@ pub extern "C" fn desk_version() -> u32
 
 // The same under a name with the number in it: a header of another version asks for another name, which the linker then misses.
 #[no_mangle]
-pub extern "C" fn desk_library_is_version_8() -> u32
+pub extern "C" fn desk_library_is_version_9() -> u32
     ensures { λ r. ⌜ r ≡ version ⌝ }
 {
     desk_version()
