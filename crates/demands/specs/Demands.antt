@@ -64,7 +64,8 @@ CallsLeaveImages = (calls : List Call) → IsImage (imageOf (deskAfter calls))
 
 -- Demand 1.
 
--- No call of the model is without its entry points, in the library for C and of the desk, nor do their contracts say anything else of it.
+-- No call of the model is without its entry points, in the library for C and of the desk, and by their contracts its number, desk, buffer and count
+-- are the model's.
 abbrev pub EveryCallIsServed : Type 0
 EveryCallIsServed = (c : Call) → ServedInC c × ServedByDesk c
 
