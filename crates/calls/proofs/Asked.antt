@@ -7,6 +7,8 @@ use native.Mathlib.Omega.{arith}
 use Rattle.table.specs.declared.Place.{Place}
 use Rattle.table.specs.Words.{placeIn, tableIn, HoldsTable, IsPlace}
 use Rattle.table.proofs.Words.{holds-table}
+use Rattle.pooled_place.specs.Words.{HoldsPooledTable, IsPooledPlace}
+use Rattle.pooled_place.proofs.Words.{holds-pooled}
 use Rattle.book.proofs.Checks.{Finds, found, stop, go}
 use Rattle.calls.specs.Answers.{refused, answer}
 use Rattle.calls.specs.Calls.{emptyFault, Question, questionChecks, questionFault}
@@ -40,6 +42,19 @@ pub record Ready (w : List ℕ) : Type 0 where
 pub ready : {w : List ℕ} (b : Bool) → IsPlace w → b ≡ placeIn w .loaded → not b ≡ false → Ready w
 ready true i e h = record { loaded = rw (← e) refl; holds = holds-table i (sym e) }
 ready false i e h = let z : _≡_ {A = ℕ} 0 1 = cc in absurd (omega arith)
+
+-- The same of a place with its pooled list.
+pub record ReadyPooled (w : List ℕ) : Type 0 where
+  pub loaded : emptyFault (placeIn w) ≡ 0
+  pub holds : HoldsPooledTable w
+
+pub ready-pooled : {w : List ℕ} (b : Bool) → IsPooledPlace w → b ≡ placeIn w .loaded → not b ≡ false → ReadyPooled w
+ready-pooled true i e h = record { loaded = rw (← e) refl; holds = holds-pooled i (sym e) }
+ready-pooled false i e h = let z : _≡_ {A = ℕ} 0 1 = cc in absurd (omega arith)
+
+pub asked-pooled : {w : List ℕ} {n : ℕ} (q : Question) → ReadyPooled w → Finds (questionChecks (tableIn w) q) n → n ≡ questionFault (placeIn w) q
+unfolding questionFault
+asked-pooled q r f = go (r .loaded) (found f)
 
 -- The further checks of a question.
 pub asked : {w : List ℕ} {n : ℕ} (q : Question) → Ready w → Finds (questionChecks (tableIn w) q) n → n ≡ questionFault (placeIn w) q

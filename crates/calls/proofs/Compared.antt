@@ -5,9 +5,10 @@ use mathlib.Core.List.{List, _++_}
 use native.Mathlib.Omega.{arith}
 use Rattle.table.specs.declared.Totals.{Totals}
 use Rattle.table.specs.Table.{defaultsIn, survivorsIn, obligorsIn}
-use Rattle.table.specs.Words.{placeIn, tableIn, IsPlace}
+use Rattle.table.specs.Words.{placeIn, tableIn}
+use Rattle.pooled_place.specs.Words.{IsPooledPlace}
 use Rattle.table.specs.Counts.{totalsOf}
-use Rattle.table.proofs.Words.{holds-table}
+use Rattle.pooled_place.proofs.Words.{holds-pooled}
 use Rattle.book.specs.Checks.{Check, fault, firstFault}
 use Rattle.book.proofs.Checks.{Finds, found, finds, none, pass, same, over, other, held, held-first, go}
 use Rattle.cutoff.specs.declared.Verdict.{Verdict}
@@ -18,7 +19,7 @@ use Rattle.calls.specs.declared.PairAnswer.the-variants as both
 use Rattle.calls.specs.Answers.{Answer, accepted, refused, answer, Limited, totalsSays, pairSays}
 use Rattle.calls.specs.Private.{mixedChecks, mixedFault, pairTotals, SameRefusal}
 use Rattle.calls.specs.Calls.{emptyFault}
-use Rattle.calls.proofs.Asked.{is-loaded, Ready}
+use Rattle.calls.proofs.Asked.{is-loaded, ReadyPooled}
 
 -- An answer tells whether there is a fault.
 
@@ -34,13 +35,13 @@ taken-by (suc m) y e = let z : _≡_ {A = ℕ} 0 1 = cc in absurd (omega arith)
 
 -- The totals are those of its table.
 pub record HasTotals (w : List ℕ) (t : Totals) : Type 0 where
-  pub ready : Ready w
+  pub ready : ReadyPooled w
   pub totals : t ≡ totalsOf (tableIn w)
   pub defaults : t .defaults ≡ defaultsIn (tableIn w)
   pub survivors : t .survivors .0 ≡ survivorsIn (tableIn w)
   pub obligors : t .obligors .0 ≡ obligorsIn (tableIn w)
 
-answers : {w : List ℕ} {t : Totals} → Ready w → t ≡ totalsOf (tableIn w) → HasTotals w t
+answers : {w : List ℕ} {t : Totals} → ReadyPooled w → t ≡ totalsOf (tableIn w) → HasTotals w t
 unfolding totalsOf
 answers r e =
     record {
@@ -51,14 +52,14 @@ answers r e =
       obligors = ap (λ x. x .obligors .0) e;
     }
 
-is-ready : (w : List ℕ) → IsPlace w → emptyFault (placeIn w) ≡ 0 → Ready w
-is-ready w i e = record { loaded = e; holds = holds-table i (is-loaded (placeIn w .loaded) e) }
+is-ready : (w : List ℕ) → IsPooledPlace w → emptyFault (placeIn w) ≡ 0 → ReadyPooled w
+is-ready w i e = record { loaded = e; holds = holds-pooled i (is-loaded (placeIn w .loaded) e) }
 
 module _ (w : List ℕ) (r : TotalsAnswer) (e : totalsSays r ≡ answer (emptyFault (placeIn w)) (totalsOf (tableIn w))) where
   pub totals-refused : {n : ℕ} → r ≡ one.Refused n → (n ≡ emptyFault (placeIn w)) × (n ≡ 0 → ⊥)
   totals-refused h = refused-by _ (totalsOf (tableIn w)) (rw h at e)
 
-  pub totals-taken : {t : Totals} → IsPlace w → r ≡ one.Totals t → HasTotals w t
+  pub totals-taken : {t : Totals} → IsPooledPlace w → r ≡ one.Totals t → HasTotals w t
   totals-taken i h = let k = taken-by _ (totalsOf (tableIn w)) (rw h at e) in answers (is-ready w i (k .0)) (k .1)
 
 -- A refusal that is handed back.
@@ -105,7 +106,7 @@ module _ (v w : List ℕ) (r : PairAnswer) (e : pairSays r ≡ answer (mixedFaul
       let more = third-longer (emptyFault (placeIn v)) (emptyFault (placeIn w)) (mixedChecks (tableIn v) (tableIn w)) rest (λ z. f .1 (f .0 ∙ z)) in
       rw q (more ∙ sym (f .0), f .1)
 
-  pub pair-taken : {a b : Totals} → IsPlace v → IsPlace w → r ≡ both.Totals a b → Taken v a × Taken w b
+  pub pair-taken : {a b : Totals} → IsPooledPlace v → IsPooledPlace w → r ≡ both.Totals a b → Taken v a × Taken w b
   pair-taken {a} {b} i j h =
       let k = taken-by _ totals (rw h at e) in
       let (empty₁, more) = held-first _ _ (k .0) in

@@ -5,12 +5,16 @@ use mathlib.Core.Bool.{cond}
 use mathlib.Core.List.{List, [], _∷_}
 use lib.ListN.{length}
 use Rattle.table.specs.Table.{Table, defaultsIn, survivorsIn}
-use Rattle.table.specs.Place.{fresh, tableOf, placeOf}
+use Rattle.table.specs.Place.{tableOf}
 use Rattle.table.specs.declared.Place.{Place}
 use Rattle.book.specs.Checks.{Check, at-most, equal, fault, firstFault}
 use Rattle.book.specs.Rows.{tableOfRater}
 use Rattle.book.specs.Reading.{readFault}
 use Rattle.pooling.specs.Numbers.{pooledInto}
+use Rattle.pooled_place.specs.declared.PooledPlace.{PooledPlace}
+use Rattle.pooled_place.specs.PooledPlace.{freshPooledPlace, pooledPlaceOf}
+use Rattle.events.specs.declared.Event.{Event}
+use Rattle.events.specs.Events.{tableAfter, eventFault}
 use Rattle.cutoff.specs.Verdict.{IsVerdict}
 use Rattle.cutoff.specs.declared.Verdict.{Verdict}
 use Rattle.calls.specs.Answers.{Answer, Limited}
@@ -64,17 +68,21 @@ fillFault p f n = firstFault (emptyFault p) (fault (at-most (fillSize (tableOf p
 pub data Change : Type 0 where
   load : (book : List ℕ) (rater : ℕ) → Change
   clear : Change
+  event : Event → (grade : ℕ) → Change
 
--- "Load 1, 21, 2, 3, 4; then table by table .. Clear 1, 22."
+-- "Load 1, 21, 2, 3, 4; then table by table .. Clear 1, 22." R-8, of an event: "After 1 and 22 come 36 .., 37 .. and 38".
 unfoldable pub changeFault : Place → Change → ℕ
 changeFault p (load book rater) = firstFault (loadedFault p) (readFault book rater)
 changeFault p clear = emptyFault p
+changeFault p (event e grade) = firstFault (emptyFault p) (eventFault e grade (tableOf p))
 
 -- "The table in a place is that of the rater loaded there, as it stands in the book lent to that load." "Clear makes a loaded [place] as it
--- is on a fresh desk."
-abbrev pub changedTo : Change → Place
-changedTo (load book rater) = placeOf (tableOfRater book rater)
-changedTo clear = fresh
+-- is on a fresh desk." R-8: "The table in a place is from now on the one that its load and the events since have made .. Load makes the list, and
+-- clear drops it too." What becomes of a place with the table t:
+abbrev pub changedTo : Table → Change → PooledPlace
+changedTo t (load book rater) = pooledPlaceOf (tableOfRater book rater)
+changedTo t clear = freshPooledPlace
+changedTo t (event e grade) = pooledPlaceOf (tableAfter e grade t)
 
 -- Compare.
 

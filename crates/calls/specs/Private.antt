@@ -9,8 +9,10 @@ use Rattle.table.specs.declared.Place.{Place}
 use Rattle.table.specs.declared.Totals.{Totals}
 use Rattle.table.specs.Table.{Table, defaultsIn, survivorsIn}
 use Rattle.table.specs.Counts.{totalsOf}
-use Rattle.table.specs.Place.{fresh, tableOf}
-use Rattle.table.specs.Words.{placeSize, wordsOf, placeIn}
+use Rattle.table.specs.Place.{tableOf}
+use Rattle.table.specs.Words.{placeIn}
+use Rattle.pooled_place.specs.PooledPlace.{freshPooledPlace}
+use Rattle.pooled_place.specs.Words.{pooledPlaceSize, pooledPlaceWords}
 use Rattle.book.specs.Checks.{Check, at-most, fault, firstFault}
 use Rattle.calls.specs.Answers.{Answer, accepted, refused}
 use Rattle.calls.specs.Calls.{emptyFault}
@@ -39,5 +41,5 @@ SameRefusal (refused n) r = r ≡ refused n
 
 -- What load requires of a lent place: all words are there, and where it is not loaded they are those of an empty one.
 pub record Fillable (w : List ℕ) : Type 0 where
-  pub long : length w ≡ placeSize
-  pub unused : placeIn w .loaded ≡ false → w ≡ wordsOf fresh
+  pub long : length w ≡ pooledPlaceSize
+  pub unused : placeIn w .loaded ≡ false → w ≡ pooledPlaceWords freshPooledPlace

@@ -3,16 +3,17 @@
 ghost use mathlib.Core.Path.{_≡_};
 ghost use lib.ListN.{length};
 ghost use Rattle.table.specs.Counts.{totalsOf};
-ghost use Rattle.table.specs.Place.{fresh, tableOf, placeOf};
-ghost use Rattle.table.specs.Words.{placeSize, wordsOf, placeIn, tableIn, IsPlace};
-ghost use Rattle.book.specs.Rows.{tableOfRater};
+ghost use Rattle.table.specs.Place.{tableOf};
+ghost use Rattle.table.specs.Words.{placeIn, tableIn, IsPlace};
 ghost use Rattle.pooling.specs.Numbers.{pooledInto};
+ghost use Rattle.pooled_place.specs.Words.{pooledPlaceSize, pooledPlaceWords, IsPooledPlace};
 ghost use Rattle.cutoff.specs.Cutoff.{cheapestOf};
 ghost use Rattle.measures.specs.Measures.{measuresOf};
 ghost use Rattle.measures.specs.Brier.{brierOf};
 ghost use Rattle.spread.specs.Spread.{IsSpread};
 ghost use Rattle.calls.specs.Answers.{answer, leaves, Limited, cheapestSays, measuresSays, brierSays, spreadSays, totalsSays};
-ghost use Rattle.calls.specs.Calls.{emptyFault, questionFault, cheapest, measures, brier, spread, fillFault, pool, changeFault, load, clear};
+ghost use Rattle.calls.specs.Calls.{emptyFault, questionFault, cheapest, measures, brier, spread, fillFault, pool};
+ghost use Rattle.calls.specs.Calls.{changeFault, changedTo, load, clear, event};
 ghost use Rattle.calls.specs.Private.{Fillable};
 
 mod pair;
@@ -20,6 +21,13 @@ mod pair;
 use cutoff::CheapestCutoff;
 use cutoff::PRICE;
 use cutoff::Verdict;
+use events::Event;
+use pooled_place::counts_of;
+use pooled_place::place_grades;
+use pooled_place::place_loaded;
+use pooled_place::list_of;
+use pooled_place::pool_anew;
+use pooled_place::wipe_place;
 use measures::Measures;
 use measures::UnsignedFraction;
 pub use pair::compare;
@@ -32,10 +40,10 @@ use refusals::PLACE_EMPTY;
 use refusals::PLACE_LOADED;
 use refusals::SHORT_BUFFER;
 use spread::Spread;
+use table::PLACE;
 use table::Totals;
-use table::grades_of;
 use table::is_loaded;
-use table::wipe;
+use table::put_numbers;
 
 pub enum CheapestAnswer {
     Cheapest(CheapestCutoff),
@@ -74,44 +82,63 @@ pub enum PairAnswer {
     Refused(u32),
 }
 
-// Fills an empty place with the table of a rater of a book; 0, or the refusal number.
+// Fills an empty place with the table of a rater of a book, and makes its pooled list; 0, or the refusal number.
 pub fn load(place: &mut [u32], book: &[u8], rater: u32) -> u32
     requires { ⌜ Fillable (now place) ⌝ }
     ensures { λ r. ⌜ r ≡ changeFault (placeIn (now (place .entry))) (load (now (book .entry)) rater) ⌝ }
-    ensures { λ r. ⌜ now (place .exit) ≡ leaves r (now (place .entry)) (wordsOf (placeOf (tableOfRater (now (book .entry)) rater))) ⌝ }
+    ensures { λ r. let w = now (place .entry) in ⌜ now (place .exit) ≡ leaves r w (pooledPlaceWords (changedTo (tableIn w) (load (now (book .entry)) rater))) ⌝ }
 {
-    if is_loaded(place) {
+    if place_loaded(place) {
         return PLACE_LOADED;
     }
-    book::read(book, rater, place)
+    let refusal = book::read(book, rater, &mut place[..PLACE]);
+    if refusal != 0 {
+        return refusal;
+    }
+    pool_anew(place);
+    0
 }
 
 // Makes a loaded place as it is on a fresh desk; 0, or the refusal number.
 pub fn clear(place: &mut [u32]) -> u32
-    requires { ⌜ length (now place) ≡ placeSize ⌝ }
+    requires { ⌜ length (now place) ≡ pooledPlaceSize ⌝ }
     ensures { λ r. ⌜ r ≡ changeFault (placeIn (now (place .entry))) clear ⌝ }
-    ensures { λ r. ⌜ now (place .exit) ≡ leaves r (now (place .entry)) (wordsOf fresh) ⌝ }
+    ensures { λ r. let w = now (place .entry) in ⌜ now (place .exit) ≡ leaves r w (pooledPlaceWords (changedTo (tableIn w) clear)) ⌝ }
 {
-    if !is_loaded(place) {
+    if !place_loaded(place) {
         return PLACE_EMPTY;
     }
-    wipe(place);
+    wipe_place(place);
     0
 }
 
-// The three numbers of each grade, into a lent buffer whose further numbers are kept; 0, or the refusal number.
+// Books an event at a grade of the table, and makes its pooled list anew; 0, or the refusal number.
+pub fn book_event(place: &mut [u32], kind: Event, grade: u32) -> u32
+    requires { ⌜ IsPooledPlace (now place) ⌝ }
+    ensures { λ r. ⌜ r ≡ changeFault (placeIn (now (place .entry))) (event kind grade) ⌝ }
+    ensures { λ r. let w = now (place .entry) in ⌜ now (place .exit) ≡ leaves r w (pooledPlaceWords (changedTo (tableIn w) (event kind grade))) ⌝ }
+{
+    if !place_loaded(place) {
+        return PLACE_EMPTY;
+    }
+    events::book_event(place, kind, grade)
+}
+
+// The three numbers of each grade, into a lent buffer whose further numbers are kept; 0, or the refusal number. They are copied from the list.
 pub fn pool(place: &[u32], out: &mut [u32]) -> u32
-    requires { ⌜ IsPlace (now place) ⌝ }
+    requires { ⌜ IsPooledPlace (now place) ⌝ }
     ensures { λ r. ⌜ r ≡ fillFault (placeIn (now (place .entry))) pool (length (now (out .entry))) ⌝ }
     ensures { λ r. ⌜ now (out .exit) ≡ leaves r (now (out .entry)) (pooledInto (tableIn (now (place .entry))) (now (out .entry))) ⌝ }
 {
-    if !is_loaded(place) {
+    if !place_loaded(place) {
         return PLACE_EMPTY;
     }
-    if out.len() < NUMBERS * grades_of(place) {
+    let numbers = NUMBERS * place_grades(place);
+    if out.len() < numbers {
         return SHORT_BUFFER;
     }
-    pooling::pool(place, out);
+    let list = list_of(place);
+    put_numbers(out, 0, &list[..numbers]);
     0
 }
 
@@ -164,10 +191,10 @@ pub fn brier(place: &[u32]) -> BrierAnswer
 // The spread record. Document 01 leaves the two floats free within their bounds, so the contract limits them: "The price pairs and the two
 // floats alone are freer, bound as above".
 pub fn spread(place: &[u32]) -> SpreadAnswer
-    requires { ⌜ IsPlace (now place) ⌝ }
+    requires { ⌜ IsPooledPlace (now place) ⌝ }
     ensures { λ r. let p = placeIn (now (place .entry)) in ⌜ Limited (questionFault p spread) (IsSpread (tableOf p)) (spreadSays r) ⌝ }
 {
-    if !is_loaded(place) {
+    if !place_loaded(place) {
         return SpreadAnswer::Refused(PLACE_EMPTY);
     }
     SpreadAnswer::Spread(spread::spread_of(place))
@@ -175,11 +202,11 @@ pub fn spread(place: &[u32]) -> SpreadAnswer
 
 // The totals of the table, for the comparisons.
 fn totals(place: &[u32]) -> TotalsAnswer
-    requires { ⌜ IsPlace (now place) ⌝ }
+    requires { ⌜ IsPooledPlace (now place) ⌝ }
     ensures { λ r. let p = placeIn (now (place .entry)) in ⌜ totalsSays r ≡ answer (emptyFault p) (totalsOf (tableOf p)) ⌝ }
 {
-    if !is_loaded(place) {
+    if !place_loaded(place) {
         return TotalsAnswer::Refused(PLACE_EMPTY);
     }
-    TotalsAnswer::Totals(table::totals_of(place))
+    TotalsAnswer::Totals(table::totals_of(counts_of(place)))
 }

@@ -1,6 +1,7 @@
 // The two comparisons, the calls on two places: every check, and then the verdict.
 ghost use mathlib.Core.Path.{_≡_};
-ghost use Rattle.table.specs.Words.{placeIn, IsPlace};
+ghost use Rattle.table.specs.Words.{placeIn};
+ghost use Rattle.pooled_place.specs.Words.{IsPooledPlace};
 ghost use Rattle.calls.specs.Answers.{answer, compareSays, totalsSays, pairSays};
 ghost use Rattle.calls.specs.Private.{mixedFault, pairTotals, SameRefusal};
 ghost use Rattle.calls.specs.Calls.{Compared};
@@ -28,7 +29,7 @@ fn handed_back(a: TotalsAnswer) -> PairAnswer
 
 // What both comparisons begin with: the totals of the tables in both places, each with a default and a survivor.
 fn both_totals(first: &[u32], second: &[u32]) -> PairAnswer
-    requires { ⌜ IsPlace (now first) × IsPlace (now second) ⌝ }
+    requires { ⌜ IsPooledPlace (now first) × IsPooledPlace (now second) ⌝ }
     ensures { λ r. let p = placeIn (now (first .entry)) in let q = placeIn (now (second .entry)) in ⌜ pairSays r ≡ answer (mixedFault p q) (pairTotals p q) ⌝ }
 {
     let ours = totals(first);
@@ -61,7 +62,7 @@ fn refused(pair: PairAnswer) -> CompareAnswer
 // Which of two scales is better. Document 01 leaves open which price pairs the verdict carries, so the contract limits them: "Which pair
 // is carried is free; its prices are at most 1,000,000 and its costs differ as said".
 pub fn compare(first: &[u32], second: &[u32]) -> CompareAnswer
-    requires { ⌜ IsPlace (now first) × IsPlace (now second) ⌝ }
+    requires { ⌜ IsPooledPlace (now first) × IsPooledPlace (now second) ⌝ }
     ensures { λ r. ⌜ Compared (placeIn (now (first .entry))) (placeIn (now (second .entry))) (compareSays r) ⌝ }
 {
     let pair = both_totals(first, second);
@@ -77,7 +78,7 @@ pub fn compare(first: &[u32], second: &[u32]) -> CompareAnswer
 // Which of two scales is better on shares. Document 02 leaves open which price pairs the verdict carries, so the contract limits them: "The
 // pairs carried have prices up to 2,500,000,000".
 pub fn compare_shares(first: &[u32], second: &[u32]) -> CompareAnswer
-    requires { ⌜ IsPlace (now first) × IsPlace (now second) ⌝ }
+    requires { ⌜ IsPooledPlace (now first) × IsPooledPlace (now second) ⌝ }
     ensures { λ r. ⌜ ComparedByShares (placeIn (now (first .entry))) (placeIn (now (second .entry))) (compareSays r) ⌝ }
 {
     let pair = both_totals(first, second);

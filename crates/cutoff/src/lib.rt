@@ -9,16 +9,17 @@ ghost use Rattle.table.specs.Table.{Counted, defaultsIn, survivorsIn};
 ghost use Rattle.table.specs.Words.{tableIn, HoldsTable};
 ghost use Rattle.table.specs.Counts.{largest};
 ghost use Rattle.pooling.specs.Pool.{asGrade};
+ghost use Rattle.pooled_place.specs.Words.{HoldsPooledTable};
 ghost use Rattle.cutoff.specs.Cutoff.{cheapestOf};
 ghost use Rattle.cutoff.specs.Verdict.{neverDearer, IsVerdict};
 ghost use Rattle.cutoff.specs.Sweep.{scaleIn, Sweepable, inWeights, Light, Matched, mostPairs, countsIn, Few, FitsSigned};
 ghost use Rattle.cutoff.specs.Sweep.{ahead, behind, IsLead, acceptedIn, SmallIn, Turned};
 ghost use Rattle.cutoff.specs.Sweep.{Finds, priceIn, SmallPrice, dearerAt, verdictOf};
 ghost use Rattle.cutoff.specs.Claims.{Claims};
+use pooled_place::listed_blocks;
 use pooling::BLOCKS;
 use pooling::Block;
 use pooling::block_at;
-use pooling::blocks_of;
 use table::DEFAULTS;
 use table::Survivors;
 use table::grades_of;
@@ -281,17 +282,17 @@ impl Verdict {
     }
 }
 
-// The verdict on the tables in two lent places, of equally many defaults and equally many survivors.
+// The verdict on the tables in two lent places, by their pooled lists, of equally many defaults and equally many survivors.
 pub fn judge(first: &[u32], second: &[u32]) -> Verdict
-    requires tables { ⌜ HoldsTable (now first) × HoldsTable (now second) ⌝ }
+    requires tables { ⌜ HoldsPooledTable (now first) × HoldsPooledTable (now second) ⌝ }
     requires defaults { ⌜ defaultsIn (tableIn (now first)) ≡ defaultsIn (tableIn (now second)) ⌝ }
     requires survivors { ⌜ survivorsIn (tableIn (now first)) ≡ survivorsIn (tableIn (now second)) ⌝ }
     ensures { λ r. ⌜ IsVerdict (tableIn (now (first .entry))) (tableIn (now (second .entry))) r ⌝ }
 {
     let mut ours = [0u32; BLOCKS];
-    let ours_from = blocks_of(first, &mut ours);
+    let ours_from = listed_blocks(first, &mut ours);
     let mut theirs = [0u32; BLOCKS];
-    let theirs_from = blocks_of(second, &mut theirs);
+    let theirs_from = listed_blocks(second, &mut theirs);
     let our_blocks = &ours[ours_from..];
     let their_blocks = &theirs[theirs_from..];
     let first_found = where_dearer(our_blocks, ONCE, their_blocks, ONCE);

@@ -7,6 +7,7 @@ use lib.ListN.{length, take, drop, getD}
 use Rattle.table.specs.Table.{Every, Mixed, occupied}
 use Rattle.table.proofs.Occupied.{all-occupied}
 use Rattle.table.proofs.Words.{sound-loaded}
+use Rattle.pooled_place.proofs.Words.{sound-place}
 use Rattle.book.specs.Bytes.{Byte}
 use Rattle.book.specs.Layout.{raters, startOf, kindAt, layoutFault}
 use Rattle.book.specs.Rows.{tablesIn}
@@ -26,7 +27,7 @@ use Rattle.calls.specs.Answers.{accepted}
 use Rattle.calls.specs.Calls.{measures, questionFault, pool, fillFault}
 use Rattle.desk.specs.declared.Desk.{Desk}
 use Rattle.desk.specs.Desk.{tableAt, SoundDesk}
-use Rattle.desk.proofs.Asked.{table-sound}
+use Rattle.desk.proofs.Soundness.{table-sound}
 use Rattle.desk.specs.Calls.{ask, fill, write, numberOf, lentAfter, loadedTables, Returns}
 use Rattle.desk_c.proofs.Answered.{accepted-is}
 use Rattle.demands.specs.History.{nothing, table, filled}
@@ -60,7 +61,9 @@ unfolding lengthOr
 loads-back d s out n w j from to =
     let said = accepted-is (bookSize (loadedTables d)) (writeFault (loadedTables d) (length out)) w in
     let e = sym (said .0) in
-    let r = round-trip (d .first) (d .second) (sound-loaded (s .first)) (sound-loaded (s .second)) out (bookSize (loadedTables d)) (rw e refl) j from to in
+    let first = sound-loaded (sound-place (s .first)) in
+    let second = sound-loaded (sound-place (s .second)) in
+    let r = round-trip (d .first .place) (d .second .place) first second out (bookSize (loadedTables d)) (rw e refl) j from to in
     rw (said .1, r .0, r .1)
 
 pub writes-back : (b : List ℕ) → Every Byte b → layoutFault b ≡ 0 → ((j : ℕ) → 1 ≤ j → j ≤ raters b → kindAt b (startOf b j) ≡ 0)

@@ -2,7 +2,8 @@
 use Prim.Native.Nat.{ℕ, zero, suc}
 use mathlib.Core.Path.{_≡_, refl, sym, ap, _∙_}
 use Rattle.calls.specs.Answers.{Answer, accepted, refused, answer, Limited, compareSays, spreadSays}
-use Rattle.calls.specs.Calls.{cheapest, measures, brier, spread, pool, load, clear}
+use Rattle.calls.specs.Calls.{cheapest, measures, brier, spread, pool, load, clear, event}
+use Rattle.events.specs.declared.Event.the-variants.{SurvivorEnters, SurvivorLeaves, SurvivorDefaults, DefaultedRemoved}
 use Rattle.desk.specs.Calls.{Call, ask, compare, compareShares, fill, write, shortlist, change}
 use Rattle.demands.specs.EntryPoints.{ServedInC, numberIn, ServedByDesk}
 
@@ -18,6 +19,10 @@ in-c (write out) = λ κs a n s p e. rw (← e) (record { number = p .1 .0; desk
 in-c (shortlist b out) = λ κs a n s p e f. rw (← e, ← f) (record { number = p .1 .0; desk = p .0; buffer = p .1 .1 .0 }, p .1 .1 .1)
 in-c (change i (load b j)) = λ κs a n s p e f g. rw (← e, ← f, ← g) (record { number = p .0; desk = p .1; buffer = refl })
 in-c (change i clear) = λ κs a n s p e. rw (← e) (record { number = p .0; desk = p .1; buffer = refl })
+in-c (change i (event SurvivorEnters g)) = λ κs a n s p e f. rw (← e, ← f) (record { number = p .0; desk = p .1; buffer = refl })
+in-c (change i (event SurvivorLeaves g)) = λ κs a n s p e f. rw (← e, ← f) (record { number = p .0; desk = p .1; buffer = refl })
+in-c (change i (event SurvivorDefaults g)) = λ κs a n s p e f. rw (← e, ← f) (record { number = p .0; desk = p .1; buffer = refl })
+in-c (change i (event DefaultedRemoved g)) = λ κs a n s p e f. rw (← e, ← f) (record { number = p .0; desk = p .1; buffer = refl })
 
 -- the number in an answer that is given, and in one that is limited
 given : {A : Type 0} (n : ℕ) (x : A) → numberIn (answer n x) ≡ n
@@ -43,6 +48,10 @@ by-desk (write out) = λ κs a r s p e. rw (← e) (record { number = in-given _
 by-desk (shortlist b out) = λ κs a r s p e f. rw (← e, ← f) (record { number = in-given _ _ (p .1 .1); desk = p .0; buffer = p .1 .0 }, p .1 .1)
 by-desk (change i (load b j)) = λ κs a r s p e f g. rw (← e, ← f, ← g) (record { number = in-given _ _ (p .1); desk = p .0; buffer = refl })
 by-desk (change i clear) = λ κs a r s p e. rw (← e) (record { number = in-given _ _ (p .1); desk = p .0; buffer = refl })
+by-desk (change i (event SurvivorEnters g)) = λ κs a r s p e f. rw (← e, ← f) (record { number = in-given _ _ (p .1); desk = p .0; buffer = refl })
+by-desk (change i (event SurvivorLeaves g)) = λ κs a r s p e f. rw (← e, ← f) (record { number = in-given _ _ (p .1); desk = p .0; buffer = refl })
+by-desk (change i (event SurvivorDefaults g)) = λ κs a r s p e f. rw (← e, ← f) (record { number = in-given _ _ (p .1); desk = p .0; buffer = refl })
+by-desk (change i (event DefaultedRemoved g)) = λ κs a r s p e f. rw (← e, ← f) (record { number = in-given _ _ (p .1); desk = p .0; buffer = refl })
 
 pub served : (c : Call) → ServedInC c × ServedByDesk c
 served c = (in-c c, by-desk c)

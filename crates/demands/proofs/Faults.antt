@@ -17,12 +17,15 @@ use Rattle.book.specs.Reading.{readFault, allTables, tableFaults, bookFault}
 use Rattle.book.specs.Writing.{writeFault}
 use Rattle.book.proofs.Numbers.{allPass, fault-passes, first-passes, rows-pass, tables-pass}
 use Rattle.shortlist.specs.Checks.{someChecks, equalChecks, sameChecks, shortlistFault}
-use Rattle.calls.specs.Calls.{Question, cheapest, measures, brier, spread, questionChecks, questionFault, Filling, pool, fillSize, fillFault, Change, load, clear, changeFault, emptyFault, pairChecks, compareFault}
+use Rattle.events.specs.declared.Event.{Event}
+use Rattle.events.specs.declared.Event.the-variants.{SurvivorEnters, SurvivorLeaves, SurvivorDefaults, DefaultedRemoved}
+use Rattle.events.specs.Events.{eventFault}
+use Rattle.calls.specs.Calls.{Question, cheapest, measures, brier, spread, questionChecks, questionFault, Filling, pool, fillSize, fillFault, Change, load, clear, event, changeFault, emptyFault, pairChecks, compareFault}
 use Rattle.calls.specs.Shares.{sharesChecks, sharesFault}
 use Rattle.desk.specs.declared.Desk.{Desk}
 use Rattle.desk.specs.Desk.{placeAt}
 use Rattle.desk.specs.Calls.{Call, ask, compare, compareShares, fill, write, shortlist, change, placeFault, numberOf}
-use Rattle.demands.specs.History.{questionNumbers, fillNumbers, changeNumbers, numbers}
+use Rattle.demands.specs.History.{questionNumbers, fillNumbers, eventNumbers, changeNumbers, numbers}
 use Rattle.shortlist.specs.Claims.{Has}
 
 -- A number that is one of some, found by computation.
@@ -140,6 +143,14 @@ known-fill : (p : Place) (f : Filling) (n : ℕ) → Known (1 ∷ fillNumbers f)
 unfolding fillFault among allPass
 known-fill p pool n = known-then (13 ∷ []) p (at-most (fillSize (tableOf p) pool) n 13 ∷ []) tt
 
+-- 36, and then the checks of the event
+known-event : (p : Place) (e : Event) (g : ℕ) → Known (1 ∷ eventNumbers e) (firstFault (emptyFault p) (eventFault e g (tableOf p)))
+unfolding eventFault among allPass
+known-event p SurvivorEnters g = let ns : List ℕ = 36 ∷ 38 ∷ [] in known-first (1 ∷ 22 ∷ ns) _ _ (known-empty ns p) (known-first (1 ∷ 22 ∷ ns) _ _ (known-fault (1 ∷ 22 ∷ ns) _ tt) (known-fault (1 ∷ 22 ∷ ns) _ tt))
+known-event p SurvivorLeaves g = let ns : List ℕ = 36 ∷ 37 ∷ [] in known-first (1 ∷ 22 ∷ ns) _ _ (known-empty ns p) (known-first (1 ∷ 22 ∷ ns) _ _ (known-fault (1 ∷ 22 ∷ ns) _ tt) (known-fault (1 ∷ 22 ∷ ns) _ tt))
+known-event p SurvivorDefaults g = let ns : List ℕ = 36 ∷ 37 ∷ [] in known-first (1 ∷ 22 ∷ ns) _ _ (known-empty ns p) (known-first (1 ∷ 22 ∷ ns) _ _ (known-fault (1 ∷ 22 ∷ ns) _ tt) (known-fault (1 ∷ 22 ∷ ns) _ tt))
+known-event p DefaultedRemoved g = let ns : List ℕ = 36 ∷ 37 ∷ [] in known-first (1 ∷ 22 ∷ ns) _ _ (known-empty ns p) (known-first (1 ∷ 22 ∷ ns) _ _ (known-fault (1 ∷ 22 ∷ ns) _ tt) (known-fault (1 ∷ 22 ∷ ns) _ tt))
+
 known-change : (p : Place) (c : Change) → Known (1 ∷ changeNumbers c) (changeFault p c)
 unfolding changeFault among
 known-change p (load b j) =
@@ -147,6 +158,7 @@ known-change p (load b j) =
     (by-test (Known (1 ∷ changeNumbers (load b j))) (p .loaded) (λ _. tt) (λ _. tt))
     (known-read b j)
 known-change p clear = known-empty [] p
+known-change p (event e g) = known-event p e g
 
 -- and of the desk: 1 before them
 
@@ -165,8 +177,8 @@ known-pair ns p q n k =
 known : (d : Desk) (c : Call) → Known (numbers c) (numberOf d c)
 unfolding compareFault pairChecks sharesFault sharesChecks writeFault among allPass
 known d (ask i q) = known-place (questionNumbers q) i _ (known-question (placeAt d i) q)
-known d compare = known-pair (23 ∷ 24 ∷ 25 ∷ []) (d .first) (d .second) _ (known-fault (numbers compare) _ tt)
-known d compareShares = known-pair (23 ∷ 24 ∷ 35 ∷ []) (d .first) (d .second) _ (known-fault (numbers compareShares) _ tt)
+known d compare = known-pair (23 ∷ 24 ∷ 25 ∷ []) (d .first .place) (d .second .place) _ (known-fault (numbers compare) _ tt)
+known d compareShares = known-pair (23 ∷ 24 ∷ 35 ∷ []) (d .first .place) (d .second .place) _ (known-fault (numbers compareShares) _ tt)
 known d (fill i f out) = known-place (fillNumbers f) i _ (known-fill (placeAt d i) f _)
 known d (write out) = known-fault (numbers (write out)) _ tt
 known d (shortlist b out) = known-shortlist b out
@@ -189,6 +201,10 @@ unlisted (write out) h = h
 unlisted (shortlist b out) h = h
 unlisted (change i (load b j)) h = h
 unlisted (change i clear) h = h
+unlisted (change i (event SurvivorEnters g)) h = h
+unlisted (change i (event SurvivorLeaves g)) h = h
+unlisted (change i (event SurvivorDefaults g)) h = h
+unlisted (change i (event DefaultedRemoved g)) h = h
 
 pub never-five : (d : Desk) (c : Call) → numberOf d c ≡ 5 → ⊥
 never-five d c e = unlisted c (rw e at (known d c))

@@ -6,7 +6,7 @@ use native.Mathlib.Omega.{arith}
 use lib.ListN.{length, drop, length-append, length-drop}
 use lib.Seq.{drop-at}
 use Rattle.table.specs.Table.{Table}
-use Rattle.table.specs.declared.Place.{Place}
+use Rattle.pooled_place.specs.declared.PooledPlace.{PooledPlace}
 use Rattle.book.specs.Checks.{firstFault}
 use Rattle.book.specs.Encode.{bookSize, encode}
 use Rattle.book.specs.Reading.{allTables}
@@ -91,7 +91,7 @@ written-only d (change i c) = (refl, refl)
 same : {A B : Type 0} (f : A → B) (n : ℕ) (old new : A) → f new ≡ f old → f (leaves n old new) ≡ f old
 same f n old new e = by-fault (λ x. f x ≡ f old) n (λ _. e) (λ _. refl)
 
-others : (d : Desk) (m : ℕ) (p : Place) {i : ℕ} → Number i
+others : (d : Desk) (m : ℕ) (p : PooledPlace) {i : ℕ} → Number i
     → ((i ≡ 1 → ⊥) → leaves (firstFault (placeFault i) m) d (withPlace d i p) .first ≡ d .first)
     × ((i ≡ 2 → ⊥) → leaves (firstFault (placeFault i) m) d (withPlace d i p) .second ≡ d .second)
 unfolding firstFault

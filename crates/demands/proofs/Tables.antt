@@ -5,6 +5,7 @@ use mathlib.Core.Bool.{Bool, true, false}
 use mathlib.Core.List.{[], _∷_}
 use native.Mathlib.Omega.{arith}
 use lib.Dec.{lit<, lit≤}
+use lib.ListN.{replicate}
 use Rattle.table.specs.Table.{Table, Every, Counted, Mixed, occupied, survivorsIn, defaultsIn, obligorsIn}
 use Rattle.table.specs.Place.{gradesFrom, tableOf, placeOf}
 use Rattle.table.proofs.Placed.{table-placed}
@@ -36,11 +37,14 @@ use Rattle.shortlist.specs.Shortlist.{unbeaten, listed}
 use Rattle.shortlist.specs.Checks as listing
 use Rattle.shortlist.specs.Checks.{someChecks, equalChecks, sameChecks, totalsFault, shortlistFault}
 use Rattle.calls.specs.Answers.{Answer, accepted, refused, Limited}
-use Rattle.calls.specs.Calls.{load, changeFault, compareFault, pairChecks}
+use Rattle.calls.specs.Calls.{load, clear, changeFault, compareFault, pairChecks}
+use Rattle.events.specs.declared.Event.the-variants.{SurvivorEnters, SurvivorDefaults}
+use Rattle.events.specs.Events.{tableAfter, eventFault}
 use Rattle.calls.specs.Shares.{sharesFault, sharesChecks}
 use Rattle.desk.specs.Calls.{change, numberOf}
 use Rattle.demands.specs.History.{deskFrom, deskAfter, heldFrom, held, table}
 use Rattle.demands.specs.Worked as worked
+use Rattle.demands.specs.Worked.{loadK, booking, tableKWith}
 use Rattle.demands.specs.Worked.{row, bookK, tableK, empty, bookOf, swappedK, five, fine, coarse, worstApart, bestApart, price, Between}
 use Rattle.demands.specs.Worked.{oneGrade, coarseAndFine, otherDefaults, otherSurvivors}
 use Rattle.demands.specs.Worked.{coarseTwice, bestApartTwice, manySurvived, manyDefaulted, OnShares}
@@ -53,6 +57,15 @@ read :
     × (numberOf (deskAfter []) (change 1 (load swappedK 1)) ≡ 34)
 unfolding deskFrom heldFrom changeFault readFault headChecks raterChecks tableChecks tablesFaultFrom gradeIn gradesIn rowChecks laterChecks laterFault rowsFault totalChecks tableFault fault firstFault twoAt fourAt twoBytes fourBytes obligorsIn occupied
 read = (refl, refl, refl, refl)
+
+-- R-8: K loaded, an event booked at a grade of it, and the place cleared.
+booked :
+    (held 1 (loadK ∷ booking SurvivorDefaults 2 ∷ []) ≡ table (tableKWith 10 2))
+    × (deskAfter (loadK ∷ booking SurvivorDefaults 2 ∷ []) .first .pooled ≡ 8 ∷ 40 ∷ 11 ∷ 8 ∷ 40 ∷ 11 ∷ 8 ∷ 40 ∷ 11 ∷ replicate 111 0)
+    × (deskAfter (loadK ∷ booking SurvivorDefaults 2 ∷ change 1 clear ∷ []) ≡ deskAfter [])
+    × (held 1 (loadK ∷ booking SurvivorEnters 4 ∷ []) ≡ table tableK)
+unfolding deskFrom heldFrom changeFault readFault headChecks raterChecks tableChecks tablesFaultFrom gradeIn gradesIn rowChecks laterChecks laterFault rowsFault totalChecks tableFault eventFault tableAfter fault firstFault twoAt fourAt obligorsIn occupied placeOf gradesFrom pool front bandFrom gradesOf numbersOf repeating pooledNumbers
+booked = (refl, refl, refl, refl)
 
 -- R-7: lists of raters, a book of two, and totals that differ.
 lists :
@@ -140,7 +153,7 @@ absurd-less : {n : ℕ} → n < n → ⊥
 absurd-less h = omega arith
 
 pub Worked : worked.Worked
-unfolding pool front bandFrom gradesOf numbersOf occupied repeating pooledNumbers ratesIn defaultsIn survivorsIn obligorsIn concordant discordant tied measuresOf turnedAway cost best cheapestOf all compareFault pairChecks sharesFault sharesChecks shareCost cheapestShare sum ratio rowChecks laterChecks laterFault rowsFault totalChecks tableFault fault firstFault placeOf gradesFrom
+unfolding pool front bandFrom gradesOf numbersOf occupied repeating pooledNumbers ratesIn defaultsIn survivorsIn obligorsIn concordant discordant tied measuresOf turnedAway cost best cheapestOf all compareFault pairChecks sharesFault sharesChecks shareCost cheapestShare sum ratio rowChecks laterChecks laterFault rowsFault totalChecks tableFault eventFault tableAfter fault firstFault placeOf gradesFrom
 Worked = record {
   a-read = read .0;
   a-pooled = refl;
@@ -246,4 +259,23 @@ Worked = record {
   r7-room = (listing-book .1, listing-book .2);
   r7-swapped = listing-book .3;
   r7-25 = totals;
+  r8-enters = refl;
+  r8-leaves = refl;
+  r8-defaults = refl;
+  r8-removed = refl;
+  r8-held = booked .0;
+  r8-list = booked .1;
+  r8-dropped = booked .2;
+  r8-refused = booked .3;
+  r8-36 = (refl, refl, refl);
+  r8-37-survivors = (refl, refl);
+  r8-37-defaulted = (refl, refl);
+  r8-empty = (refl, refl);
+  r8-filled = refl;
+  r8-last = (refl, refl);
+  r8-last-defaults = refl;
+  r8-one-of-two = (refl, refl);
+  r8-38 = (refl, refl);
+  r8-room = refl;
+  r8-crowd-defaults = refl;
 }

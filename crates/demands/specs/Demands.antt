@@ -16,6 +16,8 @@ use Rattle.book.specs.Rows.{tableOfRater, tablesIn}
 use Rattle.book.specs.Fall.{FallsAfter}
 use Rattle.book.specs.Claims as book
 use Rattle.pooling.specs.Numbers.{ratesAtOccupied}
+use Rattle.pooled_place.specs.PooledPlace.{listOf}
+use Rattle.events.specs.Claims as events
 use Rattle.pooling.specs.Regression.{IsRegression}
 use Rattle.pooling.specs.Claims.{RepeatsNextBetter, RepeatsBest}
 use Rattle.cutoff.specs.Cutoff.{AtLeastAsGood}
@@ -43,10 +45,22 @@ use Rattle.demands.specs.EntryPoints.{ServedInC, ServedByDesk}
 abbrev pub EveryDeskIsSound : Type 0
 EveryDeskIsSound = (calls : List Call) → SoundDesk (deskAfter calls)
 
--- "The table in a place is that of the rater loaded there, as it stands in the book lent to that load, n taken as the kind says."
+-- "The table in a place is that of the rater loaded there, as it stands in the book lent to that load, n taken as the kind says." R-8: "The table
+-- in a place is from now on the one that its load and the events since have made".
 abbrev pub PlacesHoldWhatWasLoaded : Type 0
 PlacesHoldWhatWasLoaded =
     (calls : List Call) → deskAfter calls ≡ record { first = placed (held 1 calls); second = placed (held 2 calls) }
+
+-- R-8: "After every list of events that list equals a pooling of the current counts": of every list of calls, and of each place that holds a table.
+abbrev pub KeptListsArePooled : Type 0
+KeptListsArePooled =
+    (calls : List Call) (t : Table)
+    → (held 1 calls ≡ table t → deskAfter calls .first .pooled ≡ listOf t)
+    × (held 2 calls ≡ table t → deskAfter calls .second .pooled ≡ listOf t)
+
+-- R-8: "Announced rates, other grades' counts and the other place are untouched by an event." The other place: `OtherPlacesAreKept`.
+abbrev pub EventsChangeOneGrade : Type 0
+EventsChangeOneGrade = events.AnnouncedRatesAreKept × events.OtherGradesAreKept × events.GradesAreKept
 
 -- It is a table as document 01 says.
 abbrev pub EveryHeldTableIsSound : Type 0
@@ -132,7 +146,8 @@ WhatIsWrittenIsGiven =
     × (lentSize d (lending out c) ≡ lentSize d c)
     × (take (lentSize d c) (lentAfter d (lending out c)) ≡ take (lentSize d c) (lentAfter d c))
 
--- "Load fills an empty place, clear makes a loaded one as it is on a fresh desk": the other place stays as it was.
+-- "Load fills an empty place, clear makes a loaded one as it is on a fresh desk": the other place stays as it was, and R-8: "Announced rates,
+-- other grades' counts and the other place are untouched by an event."
 abbrev pub OtherPlacesAreKept : Type 0
 OtherPlacesAreKept =
     (d : Desk) (c : Call) → (Keeps 1 c → after d c .first ≡ d .first) × (Keeps 2 c → after d c .second ≡ d .second)
@@ -277,6 +292,8 @@ PoolingKeepsTheCheapestCost = cutoff.PooledScaleCostsTheSame
 pub record Demands : Type 0 where
   pub every-desk-is-sound : EveryDeskIsSound
   pub places-hold-what-was-loaded : PlacesHoldWhatWasLoaded
+  pub kept-lists-are-pooled : KeptListsArePooled
+  pub events-change-one-grade : EventsChangeOneGrade
   pub every-held-table-is-sound : EveryHeldTableIsSound
   pub announced-rates-never-fall : AnnouncedRatesNeverFall
   pub calls-leave-images : CallsLeaveImages

@@ -9,7 +9,8 @@ use denote.Ref.{now}
 use denote.Triple.Entry.{Args, Res}
 use denote.Triple.Clauses.{Ended, AtExit}
 use Rattle.calls.specs.Answers.{Answer, accepted, refused, leaves, cheapestSays, compareSays, measuresSays, brierSays, spreadSays}
-use Rattle.calls.specs.Calls.{cheapest, measures, brier, spread, pool, load, clear}
+use Rattle.calls.specs.Calls.{cheapest, measures, brier, spread, pool, load, clear, event}
+use Rattle.events.specs.declared.Event.the-variants.{SurvivorEnters, SurvivorLeaves, SurvivorDefaults, DefaultedRemoved}
 use Rattle.desk.specs.Desk.{freshDesk}
 use Rattle.desk.specs.Answers.{ackSays, writtenSays, shortlistedSays}
 use Rattle.desk.specs.declared.Desk.{Desk}
@@ -19,6 +20,10 @@ use Rattle.desk.specs.Calls.{Call, ask, compare, compareShares, fill, write, sh
 use Rattle.desk_c.specs.Image.{imageOf, deskIn}
 use Rattle.desk_c.proofs.desk_load as desk_load
 use Rattle.desk_c.proofs.desk_clear as desk_clear
+use Rattle.desk_c.proofs.desk_survivor_enters as desk_survivor_enters
+use Rattle.desk_c.proofs.desk_survivor_leaves as desk_survivor_leaves
+use Rattle.desk_c.proofs.desk_survivor_defaults as desk_survivor_defaults
+use Rattle.desk_c.proofs.desk_defaulted_removed as desk_defaulted_removed
 use Rattle.desk_c.proofs.desk_pool as desk_pool
 use Rattle.desk_c.proofs.desk_cheapest as desk_cheapest
 use Rattle.desk_c.proofs.desk_compare as desk_compare
@@ -90,6 +95,18 @@ ServedInC (change i (load book rater)) =
     → ServesImage (now (a .0)) (change i (load book rater)) n (now (s .0)) [])
 ServedInC (change i clear) =
     Promises desk_clear.ended desk_clear.Reads.Post (λ κs a n s. a .1 .0 ≡ i → ServesImage (now (a .0)) (change i clear) n (now (s .0)) [])
+ServedInC (change i (event SurvivorEnters g)) =
+    Promises desk_survivor_enters.ended desk_survivor_enters.Reads.Post
+    (λ κs a n s. a .1 .0 ≡ i → a .1 .1 .0 ≡ g → ServesImage (now (a .0)) (change i (event SurvivorEnters g)) n (now (s .0)) [])
+ServedInC (change i (event SurvivorLeaves g)) =
+    Promises desk_survivor_leaves.ended desk_survivor_leaves.Reads.Post
+    (λ κs a n s. a .1 .0 ≡ i → a .1 .1 .0 ≡ g → ServesImage (now (a .0)) (change i (event SurvivorLeaves g)) n (now (s .0)) [])
+ServedInC (change i (event SurvivorDefaults g)) =
+    Promises desk_survivor_defaults.ended desk_survivor_defaults.Reads.Post
+    (λ κs a n s. a .1 .0 ≡ i → a .1 .1 .0 ≡ g → ServesImage (now (a .0)) (change i (event SurvivorDefaults g)) n (now (s .0)) [])
+ServedInC (change i (event DefaultedRemoved g)) =
+    Promises desk_defaulted_removed.ended desk_defaulted_removed.Reads.Post
+    (λ κs a n s. a .1 .0 ≡ i → a .1 .1 .0 ≡ g → ServesImage (now (a .0)) (change i (event DefaultedRemoved g)) n (now (s .0)) [])
 
 -- The desk, whose methods take it by value and hand it back only where they change it.
 
@@ -132,3 +149,15 @@ ServedByDesk (change i (load book rater)) =
 ServedByDesk (change i clear) =
     Promises method.clear.ended method.clear.Reads.Post
     (λ κs a r s. a .1 .0 ≡ i → Serves (a .0) (change i clear) (numberIn (ackSays (r .ack))) (r .desk) [])
+ServedByDesk (change i (event SurvivorEnters g)) =
+    Promises method.survivor_enters.ended method.survivor_enters.Reads.Post
+    (λ κs a r s. a .1 .0 ≡ i → a .1 .1 .0 ≡ g → Serves (a .0) (change i (event SurvivorEnters g)) (numberIn (ackSays (r .ack))) (r .desk) [])
+ServedByDesk (change i (event SurvivorLeaves g)) =
+    Promises method.survivor_leaves.ended method.survivor_leaves.Reads.Post
+    (λ κs a r s. a .1 .0 ≡ i → a .1 .1 .0 ≡ g → Serves (a .0) (change i (event SurvivorLeaves g)) (numberIn (ackSays (r .ack))) (r .desk) [])
+ServedByDesk (change i (event SurvivorDefaults g)) =
+    Promises method.survivor_defaults.ended method.survivor_defaults.Reads.Post
+    (λ κs a r s. a .1 .0 ≡ i → a .1 .1 .0 ≡ g → Serves (a .0) (change i (event SurvivorDefaults g)) (numberIn (ackSays (r .ack))) (r .desk) [])
+ServedByDesk (change i (event DefaultedRemoved g)) =
+    Promises method.defaulted_removed.ended method.defaulted_removed.Reads.Post
+    (λ κs a r s. a .1 .0 ≡ i → a .1 .1 .0 ≡ g → Serves (a .0) (change i (event DefaultedRemoved g)) (numberIn (ackSays (r .ack))) (r .desk) [])

@@ -5,12 +5,15 @@ use mathlib.Core.Bool.{cond}
 use mathlib.Core.List.{List, [], _∷_}
 use lib.Dec.{eqb}
 use Rattle.table.specs.Table.{Table}
-use Rattle.table.specs.Place.{fresh, placeOf}
-use Rattle.table.specs.declared.Place.{Place}
+use Rattle.pooled_place.specs.declared.PooledPlace.{PooledPlace}
+use Rattle.pooled_place.specs.PooledPlace.{freshPooledPlace, pooledPlaceOf}
+use Rattle.events.specs.declared.Event.{Event}
+use Rattle.events.specs.declared.Event.the-variants.{SurvivorEnters, SurvivorLeaves, SurvivorDefaults, DefaultedRemoved}
+use Rattle.events.specs.Events.{tableAfter, eventFault}
 use Rattle.book.specs.Rows.{tableOfRater}
 use Rattle.book.specs.Reading.{readFault}
 use Rattle.calls.specs.Answers.{leaves}
-use Rattle.calls.specs.Calls.{Question, cheapest, measures, brier, spread, Filling, pool, Change, load, clear}
+use Rattle.calls.specs.Calls.{Question, cheapest, measures, brier, spread, Filling, pool, Change, load, clear, event}
 use Rattle.desk.specs.declared.Desk.{Desk}
 use Rattle.desk.specs.Desk.{freshDesk}
 use Rattle.desk.specs.Calls.{Call, ask, compare, compareShares, fill, write, shortlist, change, after}
@@ -35,9 +38,16 @@ questionNumbers spread = 22 ∷ []
 abbrev pub fillNumbers : Filling → List ℕ
 fillNumbers pool = 22 ∷ 13 ∷ []
 
+abbrev pub eventNumbers : Event → List ℕ
+eventNumbers SurvivorEnters = 22 ∷ 36 ∷ 38 ∷ []
+eventNumbers SurvivorLeaves = 22 ∷ 36 ∷ 37 ∷ []
+eventNumbers SurvivorDefaults = 22 ∷ 36 ∷ 37 ∷ []
+eventNumbers DefaultedRemoved = 22 ∷ 36 ∷ 37 ∷ []
+
 abbrev pub changeNumbers : Change → List ℕ
 changeNumbers (load book rater) = 21 ∷ 2 ∷ 3 ∷ 4 ∷ 31 ∷ 32 ∷ 6 ∷ 7 ∷ 33 ∷ 8 ∷ 10 ∷ 34 ∷ 9 ∷ 11 ∷ []
 changeNumbers clear = 22 ∷ []
+changeNumbers (event e grade) = eventNumbers e
 
 abbrev pub numbers : Call → List ℕ
 numbers (ask i q) = 1 ∷ questionNumbers q
@@ -68,7 +78,7 @@ Keeps i (write out) = Unit {0}
 Keeps i (shortlist book out) = Unit {0}
 Keeps i (change k c) = k ≡ i → ⊥
 
--- What a place holds, told by the books alone.
+-- What a place holds, told by the books and the events alone.
 pub data Held : Type 0 where
   nothing : Held
   table : Table → Held
@@ -78,10 +88,16 @@ abbrev pub filled : Held → List ℕ → ℕ → Held
 filled nothing book rater = leaves (readFault book rater) nothing (table (tableOfRater book rater))
 filled (table t) book rater = table t
 
+-- after an event at a grade of it: R-8, "the table in a place is from now on the one that its load and the events since have made"
+abbrev pub booked : Held → Event → ℕ → Held
+booked nothing e grade = nothing
+booked (table t) e grade = leaves (eventFault e grade t) (table t) (table (tableAfter e grade t))
+
 -- after a change of it
 abbrev pub heldThen : Held → Change → Held
 heldThen h (load book rater) = filled h book rater
 heldThen h clear = nothing
+heldThen h (event e grade) = booked h e grade
 
 -- place i after one more call
 abbrev pub heldAfter : ℕ → Held → Call → Held
@@ -100,7 +116,7 @@ heldFrom i h (c ∷ calls) = heldFrom i (heldAfter i h c) calls
 abbrev pub held : ℕ → List Call → Held
 held i calls = heldFrom i nothing calls
 
--- the place that holds it
-abbrev pub placed : Held → Place
-placed nothing = fresh
-placed (table t) = placeOf t
+-- the place that holds it, with its pooled list
+abbrev pub placed : Held → PooledPlace
+placed nothing = freshPooledPlace
+placed (table t) = pooledPlaceOf t

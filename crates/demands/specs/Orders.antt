@@ -7,11 +7,13 @@ use mathlib.Core.List.{List, [], _∷_, _++_}
 use lib.ListN.{replicate}
 use lib.Seq.{sets}
 use Rattle.table.specs.Table.{Table, Grade}
-use Rattle.table.specs.Place.{fresh, placeOf}
+use Rattle.pooled_place.specs.PooledPlace.{freshPooledPlace, pooledPlaceOf}
+use Rattle.events.specs.declared.Event.{Event}
+use Rattle.events.specs.declared.Event.the-variants.{SurvivorEnters, SurvivorLeaves, SurvivorDefaults, DefaultedRemoved}
 use Rattle.book.specs.Checks.{fault}
 use Rattle.book.specs.Rows.{laterChecks}
 use Rattle.book.specs.Encode.{encode}
-use Rattle.calls.specs.Calls.{cheapest, measures, brier, spread, pool, load, clear}
+use Rattle.calls.specs.Calls.{cheapest, measures, brier, spread, pool, load, clear, event}
 use Rattle.desk.specs.declared.Desk.{Desk}
 use Rattle.desk.specs.Desk.{freshDesk}
 use Rattle.desk.specs.Calls.{ask, compare, compareShares, fill, write, shortlist, change, numberOf}
@@ -20,13 +22,13 @@ use Rattle.demands.specs.Worked.{row, announcing, empty, bookK, swappedK
 -- Desks: a table in the first place, in the second, in both. Of a number that is no place's, the second place is asked.
 
 abbrev pub inFirst : Table → Desk
-inFirst t = record { first = placeOf t; second = fresh }
+inFirst t = record { first = pooledPlaceOf t; second = freshPooledPlace }
 
 abbrev pub inSecond : Table → Desk
-inSecond t = record { first = fresh; second = placeOf t }
+inSecond t = record { first = freshPooledPlace; second = pooledPlaceOf t }
 
 abbrev pub inBoth : Table → Table → Desk
-inBoth t₁ t₂ = record { first = placeOf t₁; second = placeOf t₂ }
+inBoth t₁ t₂ = record { first = pooledPlaceOf t₁; second = pooledPlaceOf t₂ }
 
 abbrev pub full : Desk
 full = inBoth coarse coarse
@@ -56,6 +58,14 @@ noSurvivor = row 3 3 ∷ []
 
 abbrev pub twoDefaulted : Table
 twoDefaulted = row 2 2 ∷ []
+
+-- R-8: an empty grade, and one with as many obligors as a table may have
+abbrev pub crowded : Table
+crowded = empty ∷ row 1_000_000 4 ∷ []
+
+-- a row for each of the four events
+abbrev pub EachEvent : (Event → Type 0) → Type 0
+EachEvent P = P SurvivorEnters × P SurvivorLeaves × P SurvivorDefaults × P DefaultedRemoved
 
 -- more obligors than the comparison on shares takes, d of whom defaulted
 abbrev pub large : ℕ → Table
@@ -256,3 +266,11 @@ pub record Orders : Type 0 where
   pub shortlist-24-before-13 : listing (noSurvivor ∷ []) [] ≡ 24
   pub shortlist-25-before-13-defaults : listing (coarse ∷ otherDefaults ∷ []) [] ≡ 25
   pub shortlist-25-before-13-survivors : listing (coarse ∷ otherSurvivors ∷ []) [] ≡ 25
+  -- R-8: "After 1 and 22 come 36 .., 37 .. and 38": a grade below and above those of the table. In `crowded` no firm can leave, default or be
+  -- removed at grade 1 nor at grade 3, which is none, and none can enter.
+  pub event-1-before-22-below : EachEvent (λ e. numberOf freshDesk (change 0 (event e 1)) ≡ 1)
+  pub event-1-before-22-above : EachEvent (λ e. numberOf freshDesk (change 3 (event e 1)) ≡ 1)
+  pub event-22-before-36-below : EachEvent (λ e. numberOf freshDesk (change 1 (event e 0)) ≡ 22)
+  pub event-22-before-36-above : EachEvent (λ e. numberOf freshDesk (change 1 (event e 1)) ≡ 22)
+  pub event-36-before-37-and-38-below : EachEvent (λ e. numberOf (inFirst crowded) (change 1 (event e 0)) ≡ 36)
+  pub event-36-before-37-and-38-above : EachEvent (λ e. numberOf (inFirst crowded) (change 1 (event e 3)) ≡ 36)

@@ -3,9 +3,13 @@ use Prim.Native.Nat.{ℕ}
 use mathlib.Core.Path.{_≡_}
 use mathlib.Core.List.{List, [], _∷_}
 use lib.IntN.{pos, negsuc}
+use lib.ListN.{replicate}
 use lib.Seq.{sets}
 use Rattle.table.specs.Table.{Table, Grade}
 use Rattle.table.specs.Place.{placeOf}
+use Rattle.events.specs.declared.Event.{Event}
+use Rattle.events.specs.declared.Event.the-variants.{SurvivorEnters, SurvivorLeaves, SurvivorDefaults, DefaultedRemoved}
+use Rattle.events.specs.Events.{tableAfter, eventFault}
 use Rattle.book.specs.Bytes.{fourBytes}
 use Rattle.book.specs.Rows.{tableFault}
 use Rattle.book.specs.Encode.{encode}
@@ -24,9 +28,9 @@ use Rattle.shortlist.specs.Shortlist.{listed}
 use Rattle.shortlist.specs.Checks as listing
 use Rattle.shortlist.specs.Checks.{totalsFault, shortlistFault}
 use Rattle.calls.specs.Answers.{Answer, accepted}
-use Rattle.calls.specs.Calls.{load, compareFault, Compared}
+use Rattle.calls.specs.Calls.{load, clear, event, compareFault, Compared}
 use Rattle.calls.specs.Shares.{sharesFault, ComparedByShares}
-use Rattle.desk.specs.Calls.{change, numberOf}
+use Rattle.desk.specs.Calls.{Call, change, numberOf}
 use Rattle.demands.specs.History.{deskAfter, held, table}
 
 -- "Rows are (n, d)": what a grade announces plays no part, save in book K and in R-5's tables.
@@ -42,12 +46,16 @@ bookK =
     ∷ 20 ∷ 0 ∷ 0 ∷ 0 ∷ 4 ∷ 0 ∷ 0 ∷ 0 ∷ 64 ∷ 13 ∷ 3 ∷ 0
     ∷ []
 
-abbrev pub tableK : Table
-tableK =
+-- its table, with n obligors in the second grade, d of whom defaulted: 10 and 1
+abbrev pub tableKWith : ℕ → ℕ → Table
+tableKWith n d =
     record { obligors = 10; defaults = 2; announced = 100_000 }
-    ∷ record { obligors = 10; defaults = 1; announced = 150_000 }
+    ∷ record { obligors = n; defaults = d; announced = 150_000 }
     ∷ record { obligors = 20; defaults = 4; announced = 200_000 }
     ∷ []
+
+abbrev pub tableK : Table
+tableK = tableKWith 10 1
 
 -- R-4: a grade without obligors
 abbrev pub empty : Grade
@@ -136,6 +144,17 @@ otherDefaults = row 7 4 ∷ []
 
 abbrev pub otherSurvivors : Table
 otherSurvivors = row 7 3 ∷ []
+
+-- R-8: book K, loaded into place 1; an event at a grade of it
+abbrev pub loadK : Call
+loadK = change 1 (load bookK 1)
+
+abbrev pub booking : Event → ℕ → Call
+booking e g = change 1 (event e g)
+
+-- as many obligors as a table may have, one more than half of them in the second grade, and nobody in the third
+abbrev pub crowd : Table
+crowd = row 499_999 9 ∷ row 500_001 9 ∷ empty ∷ []
 
 pub record Worked : Type 0 where
   -- K pools as printed.
@@ -234,3 +253,29 @@ pub record Worked : Type 0 where
   pub r7-swapped : shortlistFault swappedK 1 ≡ 34
   -- "25 between any two": of D, of S
   pub r7-25 : (totalsFault (coarse ∷ coarse ∷ otherDefaults ∷ []) ≡ 25) × (totalsFault (otherSurvivors ∷ coarse ∷ coarse ∷ []) ≡ 25)
+  -- R-8, K after each event at its second grade, (10, 1)
+  pub r8-enters : tableAfter SurvivorEnters 2 tableK ≡ tableKWith 11 1
+  pub r8-leaves : tableAfter SurvivorLeaves 2 tableK ≡ tableKWith 9 1
+  pub r8-defaults : tableAfter SurvivorDefaults 2 tableK ≡ tableKWith 10 2
+  pub r8-removed : tableAfter DefaultedRemoved 2 tableK ≡ tableKWith 9 0
+  -- by calls: what the place holds, and its list, where the default has joined all grades; clear drops both
+  pub r8-held : held 1 (loadK ∷ booking SurvivorDefaults 2 ∷ []) ≡ table (tableKWith 10 2)
+  pub r8-list : deskAfter (loadK ∷ booking SurvivorDefaults 2 ∷ []) .first .pooled ≡ 8 ∷ 40 ∷ 11 ∷ 8 ∷ 40 ∷ 11 ∷ 8 ∷ 40 ∷ 11 ∷ replicate 111 0
+  pub r8-dropped : deskAfter (loadK ∷ booking SurvivorDefaults 2 ∷ change 1 clear ∷ []) ≡ deskAfter []
+  -- a refused event leaves what was there: K has no fourth grade
+  pub r8-refused : held 1 (loadK ∷ booking SurvivorEnters 4 ∷ []) ≡ table tableK
+  -- "36 for a grade outside the table": grades are numbered from 1 to the grade count
+  pub r8-36 : (eventFault SurvivorEnters 0 tableK ≡ 36) × (eventFault SurvivorEnters 3 tableK ≡ 0) × (eventFault SurvivorEnters 4 tableK ≡ 36)
+  -- "37 for a grade without such a firm": none survived, none defaulted, nobody is there; a survivor may enter an empty grade
+  pub r8-37-survivors : (eventFault SurvivorLeaves 1 (row 2 2 ∷ []) ≡ 37) × (eventFault SurvivorDefaults 1 (row 2 2 ∷ []) ≡ 37)
+  pub r8-37-defaulted : (eventFault DefaultedRemoved 1 (row 2 0 ∷ []) ≡ 37) × (eventFault DefaultedRemoved 1 (row 2 1 ∷ []) ≡ 0)
+  pub r8-empty : (eventFault SurvivorLeaves 1 (empty ∷ row 2 1 ∷ []) ≡ 37) × (eventFault SurvivorEnters 1 (empty ∷ row 2 1 ∷ []) ≡ 0)
+  pub r8-filled : tableAfter SurvivorLeaves 1 (tableAfter SurvivorEnters 1 (empty ∷ row 2 1 ∷ [])) ≡ empty ∷ row 2 1 ∷ []
+  -- "or a leaving or removal of the table's last obligor": it may default; of two, one may go
+  pub r8-last : (eventFault SurvivorLeaves 1 (row 1 0 ∷ empty ∷ []) ≡ 37) × (eventFault DefaultedRemoved 1 (row 1 1 ∷ empty ∷ []) ≡ 37)
+  pub r8-last-defaults : eventFault SurvivorDefaults 1 (row 1 0 ∷ empty ∷ []) ≡ 0
+  pub r8-one-of-two : (eventFault SurvivorLeaves 1 (row 1 0 ∷ row 1 0 ∷ []) ≡ 0) × (eventFault DefaultedRemoved 1 (row 1 1 ∷ row 1 0 ∷ []) ≡ 0)
+  -- "38 for an entry beyond 1,000,000" of the table, at any of its grades; one that left makes room
+  pub r8-38 : (eventFault SurvivorEnters 1 crowd ≡ 38) × (eventFault SurvivorEnters 3 crowd ≡ 38)
+  pub r8-room : eventFault SurvivorEnters 3 (tableAfter SurvivorLeaves 2 crowd) ≡ 0
+  pub r8-crowd-defaults : eventFault SurvivorDefaults 2 crowd ≡ 0

@@ -42,19 +42,20 @@ placeFault i = fault (at-most 1 i 1 ∷ at-most i 2 1 ∷ [])
 
 -- the tables of the loaded places, 1 before 2
 abbrev pub loadedTables : Desk → List Table
-loadedTables d = tablesOf (d .first) (d .second)
+loadedTables d = tablesOf (d .first .place) (d .second .place)
 
 -- the number that a call is refused with, 0 where it is accepted: 1, and then what the place answers
 abbrev pub numberOf : Desk → Call → ℕ
 numberOf d (ask i q) = firstFault (placeFault i) (questionFault (placeAt d i) q)
-numberOf d compare = compareFault (d .first) (d .second)
-numberOf d compareShares = sharesFault (d .first) (d .second)
+numberOf d compare = compareFault (d .first .place) (d .second .place)
+numberOf d compareShares = sharesFault (d .first .place) (d .second .place)
 numberOf d (fill i f out) = firstFault (placeFault i) (fillFault (placeAt d i) f (length out))
 numberOf d (write out) = writeFault (loadedTables d) (length out)
 numberOf d (shortlist book out) = shortlistFault book (length out)
 numberOf d (change i c) = firstFault (placeFault i) (changeFault (placeAt d i) c)
 
--- "Load fills an empty place, clear makes a loaded one as it is on a fresh desk, all other calls leave the desk unchanged."
+-- "Load fills an empty place, clear makes a loaded one as it is on a fresh desk, all other calls leave the desk unchanged." R-8: and an event is
+-- booked at a grade of the table in a loaded one.
 abbrev pub after : Desk → Call → Desk
 after d (ask i q) = d
 after d compare = d
@@ -62,7 +63,7 @@ after d compareShares = d
 after d (fill i f out) = d
 after d (write out) = d
 after d (shortlist book out) = d
-after d (change i c) = leaves (numberOf d (change i c)) d (withPlace d i (changedTo c))
+after d (change i c) = leaves (numberOf d (change i c)) d (withPlace d i (changedTo (tableAt d i) c))
 
 -- The buffer lent to be written, before and after a call, and how much of it an accepted one writes.
 

@@ -3,14 +3,15 @@
 ghost use mathlib.Core.Path.{_≡_};
 ghost use lib.Dec.{eqb};
 ghost use lib.ListN.{length};
-ghost use Rattle.table.specs.Place.{marked};
-ghost use Rattle.table.specs.Words.{placeSize, wordsOf, placeIn};
+ghost use Rattle.table.specs.Words.{wordsOf};
+ghost use Rattle.pooled_place.specs.PooledPlace.{markedPooledPlace};
+ghost use Rattle.pooled_place.specs.Words.{pooledPlaceSize, pooledPlaceWords, pooledPlaceIn};
 ghost use Rattle.cutoff.specs.Cutoff.{cheapestOf};
 ghost use Rattle.measures.specs.Measures.{measuresOf};
 ghost use Rattle.measures.specs.Brier.{brierOf};
 ghost use Rattle.calls.specs.Answers.{answer, leaves, cheapestSays, compareSays, measuresSays, brierSays, spreadSays};
-ghost use Rattle.calls.specs.Calls.{cheapest, measures, brier, spread, pool, load, clear};
-ghost use Rattle.desk.specs.Desk.{freshDesk, placeAt, tableAt, withPlace, SoundDesk};
+ghost use Rattle.calls.specs.Calls.{cheapest, measures, brier, spread, pool, load, clear, event};
+ghost use Rattle.desk.specs.Desk.{freshDesk, pooledPlaceAt, placeAt, tableAt, withPlace, SoundDesk};
 ghost use Rattle.desk.specs.Answers.{ackSays, writtenSays, shortlistedSays};
 ghost use Rattle.desk.specs.Calls.{placeFault, ask, compare, compareShares, fill, write, shortlist, change};
 ghost use Rattle.desk.specs.Calls.{numberOf, after, lentAfter, Returns, Compares, ComparesByShares, Spreads};
@@ -20,16 +21,18 @@ use calls::CheapestAnswer;
 use calls::CompareAnswer;
 use calls::MeasuresAnswer;
 use calls::SpreadAnswer;
+use events::Event;
+use pooled_place::POOLED_PLACE;
+use pooled_place::PooledPlace;
 use refusals::NO_PLACE;
 use shortlist::Shortlisted;
 use table::LOADED;
 use table::PLACE;
-use table::Place;
 
 // The desk (document 01's term): two places, each empty or holding one table.
 pub struct Desk {
-    pub first: Place,
-    pub second: Place,
+    pub first: PooledPlace,
+    pub second: PooledPlace,
 }
 
 // The answer of a call that answers nothing further when it is accepted.
@@ -56,10 +59,10 @@ pub fn is_place(place: u32) -> bool
 }
 
 // The words of a place without a table, marked as loaded or not.
-fn words_marked(loaded: bool) -> [u32; PLACE]
-    ensures { λ r. ⌜ r ≡ wordsOf (marked loaded) ⌝ }
+fn words_marked(loaded: bool) -> [u32; POOLED_PLACE]
+    ensures { λ r. ⌜ r ≡ pooledPlaceWords (markedPooledPlace loaded) ⌝ }
 {
-    let mut words = [0u32; PLACE];
+    let mut words = [0u32; POOLED_PLACE];
     if loaded {
         words[LOADED] = 1;
     }
@@ -84,15 +87,31 @@ impl Desk {
     pub fn empty() -> Desk
         ensures { λ r. ⌜ r ≡ freshDesk ⌝ }
     {
-        let first = Place::empty();
-        let second = Place::empty();
+        let first = PooledPlace::empty();
+        let second = PooledPlace::empty();
         Desk { first, second }
     }
 
-    // The words of place 1 or 2.
+    // The words of the counts in place 1 or 2.
     fn words(self, place: u32) -> [u32; PLACE]
         requires { ⌜ SoundDesk self ⌝ }
         ensures { λ r. ⌜ r ≡ wordsOf (placeAt self place) ⌝ }
+    {
+        if place == 1 {
+            let first = self.first;
+            let counts = first.place;
+            counts.words()
+        } else {
+            let second = self.second;
+            let counts = second.place;
+            counts.words()
+        }
+    }
+
+    // The words of place 1 or 2 with its pooled list.
+    fn pooled_words(self, place: u32) -> [u32; POOLED_PLACE]
+        requires { ⌜ SoundDesk self ⌝ }
+        ensures { λ r. ⌜ r ≡ pooledPlaceWords (pooledPlaceAt self place) ⌝ }
     {
         if place == 1 {
             self.first.words()
@@ -102,18 +121,18 @@ impl Desk {
     }
 
     // The words of an empty place with the mark of place 1 or 2: all that load and clear look at.
-    fn mark(self, place: u32) -> [u32; PLACE]
-        ensures { λ r. ⌜ r ≡ wordsOf (marked (placeAt self place .loaded)) ⌝ }
+    fn mark(self, place: u32) -> [u32; POOLED_PLACE]
+        ensures { λ r. ⌜ r ≡ pooledPlaceWords (markedPooledPlace (placeAt self place .loaded)) ⌝ }
     {
         if place == 1 {
-            words_marked(self.first.loaded)
+            words_marked(self.first.place.loaded)
         } else {
-            words_marked(self.second.loaded)
+            words_marked(self.second.place.loaded)
         }
     }
 
     // The desk with another place 1 or 2.
-    fn with_place(self, place: u32, other: Place) -> Desk
+    fn with_place(self, place: u32, other: PooledPlace) -> Desk
         ensures { λ r. ⌜ r ≡ withPlace self place other ⌝ }
     {
         let first = self.first;
@@ -133,15 +152,15 @@ impl Desk {
 
     // What a change hands back that made these words of the place, or was refused.
     fn stored(self, place: u32, refusal: u32, words: &[u32]) -> Stored
-        requires { ⌜ length (now words) ≡ placeSize ⌝ }
-        ensures { λ r. ⌜ r .desk ≡ leaves refusal self (withPlace self place (placeIn (now (words .entry)))) ⌝ }
+        requires { ⌜ length (now words) ≡ pooledPlaceSize ⌝ }
+        ensures { λ r. ⌜ r .desk ≡ leaves refusal self (withPlace self place (pooledPlaceIn (now (words .entry)))) ⌝ }
         ensures { λ r. ⌜ ackSays (r .ack) ≡ answer refusal tt ⌝ }
     {
         let ack = Ack::of(refusal);
         if refusal != 0 {
             return Stored { desk: self, ack };
         }
-        let desk = self.with_place(place, Place::of_words(words));
+        let desk = self.with_place(place, PooledPlace::of_words(words));
         Stored { desk, ack }
     }
 
@@ -171,6 +190,56 @@ impl Desk {
         self.stored(place, refusal, &words)
     }
 
+    // Books an event at a grade of the table in a place.
+    fn book_event(self, place: u32, kind: Event, grade: u32) -> Stored
+        requires { ⌜ SoundDesk self ⌝ }
+        ensures { λ r. ⌜ r .desk ≡ after self (change place (event kind grade)) ⌝ }
+        ensures { λ r. ⌜ ackSays (r .ack) ≡ answer (numberOf self (change place (event kind grade))) tt ⌝ }
+    {
+        let mut words = self.pooled_words(place);
+        if !is_place(place) {
+            return self.stored(place, NO_PLACE, &words);
+        }
+        let refusal = calls::book_event(&mut words, kind, grade);
+        self.stored(place, refusal, &words)
+    }
+
+    // A survivor enters a grade, the best being 1.
+    pub fn survivor_enters(self, place: u32, grade: u32) -> Stored
+        requires { ⌜ SoundDesk self ⌝ }
+        ensures { λ r. ⌜ r .desk ≡ after self (change place (event Event.SurvivorEnters grade)) ⌝ }
+        ensures { λ r. ⌜ ackSays (r .ack) ≡ answer (numberOf self (change place (event Event.SurvivorEnters grade))) tt ⌝ }
+    {
+        self.book_event(place, Event::SurvivorEnters, grade)
+    }
+
+    // A survivor leaves.
+    pub fn survivor_leaves(self, place: u32, grade: u32) -> Stored
+        requires { ⌜ SoundDesk self ⌝ }
+        ensures { λ r. ⌜ r .desk ≡ after self (change place (event Event.SurvivorLeaves grade)) ⌝ }
+        ensures { λ r. ⌜ ackSays (r .ack) ≡ answer (numberOf self (change place (event Event.SurvivorLeaves grade))) tt ⌝ }
+    {
+        self.book_event(place, Event::SurvivorLeaves, grade)
+    }
+
+    // A survivor defaults.
+    pub fn survivor_defaults(self, place: u32, grade: u32) -> Stored
+        requires { ⌜ SoundDesk self ⌝ }
+        ensures { λ r. ⌜ r .desk ≡ after self (change place (event Event.SurvivorDefaults grade)) ⌝ }
+        ensures { λ r. ⌜ ackSays (r .ack) ≡ answer (numberOf self (change place (event Event.SurvivorDefaults grade))) tt ⌝ }
+    {
+        self.book_event(place, Event::SurvivorDefaults, grade)
+    }
+
+    // A defaulted firm is removed.
+    pub fn defaulted_removed(self, place: u32, grade: u32) -> Stored
+        requires { ⌜ SoundDesk self ⌝ }
+        ensures { λ r. ⌜ r .desk ≡ after self (change place (event Event.DefaultedRemoved grade)) ⌝ }
+        ensures { λ r. ⌜ ackSays (r .ack) ≡ answer (numberOf self (change place (event Event.DefaultedRemoved grade))) tt ⌝ }
+    {
+        self.book_event(place, Event::DefaultedRemoved, grade)
+    }
+
     // The three numbers of each grade of the table in a place, into a lent buffer whose further numbers are kept.
     pub fn pool(self, place: u32, out: &mut [u32]) -> Ack
         requires { ⌜ SoundDesk self ⌝ }
@@ -181,7 +250,7 @@ impl Desk {
         if !is_place(place) {
             return Ack::Refused(NO_PLACE);
         }
-        let words = self.words(place);
+        let words = self.pooled_words(place);
         Ack::of(calls::pool(&words, out))
     }
 
@@ -205,8 +274,8 @@ impl Desk {
         ensures desk { λ _. ⌜ self ≡ after self compare ⌝ }
         ensures { λ r. ⌜ Compares self (compareSays r) ⌝ }
     {
-        let first = self.first.words();
-        let second = self.second.words();
+        let first = self.pooled_words(1);
+        let second = self.pooled_words(2);
         calls::compare(&first, &second)
     }
 
@@ -217,8 +286,8 @@ impl Desk {
         ensures desk { λ _. ⌜ self ≡ after self compareShares ⌝ }
         ensures { λ r. ⌜ ComparesByShares self (compareSays r) ⌝ }
     {
-        let first = self.first.words();
-        let second = self.second.words();
+        let first = self.pooled_words(1);
+        let second = self.pooled_words(2);
         calls::compare_shares(&first, &second)
     }
 
@@ -258,7 +327,7 @@ impl Desk {
         if !is_place(place) {
             return SpreadAnswer::Refused(NO_PLACE);
         }
-        let words = self.words(place);
+        let words = self.pooled_words(place);
         calls::spread(&words)
     }
 
@@ -269,8 +338,8 @@ impl Desk {
         ensures { λ r. ⌜ now (out .exit) ≡ lentAfter self (write (now (out .entry))) ⌝ }
         ensures { λ r. ⌜ Returns self (write (now (out .entry))) (writtenSays r) ⌝ }
     {
-        let first = self.first.words();
-        let second = self.second.words();
+        let first = self.words(1);
+        let second = self.words(2);
         book::write(&first, &second, out)
     }
 }

@@ -5,23 +5,23 @@ use mathlib.Core.Bool.{cond}
 use mathlib.Core.List.{List}
 use lib.Dec.{eqb}
 use lib.Seq.{paste}
-use Rattle.table.specs.declared.Place.{Place}
-use Rattle.table.specs.Words.{placeSize, wordsOf}
+use Rattle.pooled_place.specs.declared.PooledPlace.{PooledPlace}
+use Rattle.pooled_place.specs.Words.{pooledPlaceSize, pooledPlaceWords}
 use Rattle.cutoff.specs.declared.Verdict.{Verdict}
 use Rattle.calls.specs.Answers.{Answer, accepted, refused}
 use Rattle.desk_c.specs.Numbers.{verdictNumbers}
 
 -- how many numbers an image has
 abbrev pub deskSize : ℕ
-deskSize = 244
+deskSize = 484
 
 -- where the words of place i start
 abbrev pub startOf : ℕ → ℕ
-startOf i = cond (eqb i 1) 0 placeSize
+startOf i = cond (eqb i 1) 0 pooledPlaceSize
 
 -- an image in which the words from `at` on are those of p
-abbrev pub withWords : List ℕ → ℕ → Place → List ℕ
-withWords w at p = paste w at (wordsOf p) placeSize
+abbrev pub withWords : List ℕ → ℕ → PooledPlace → List ℕ
+withWords w at p = paste w at (pooledPlaceWords p) pooledPlaceSize
 
 -- 0, or the refusal number
 abbrev pub numberSaid : {A : Type 0} → Answer A → ℕ

@@ -2,30 +2,43 @@
 ghost use Prim.Native.Nat.{_+_, _≤_};
 ghost use mathlib.Core.Path.{_≡_};
 ghost use lib.ListN.{length};
-ghost use Rattle.table.specs.Place.{fresh, placeOf};
-ghost use Rattle.table.specs.Words.{placeSize, placeIn};
+ghost use Rattle.table.specs.Words.{placeIn, tableIn};
 ghost use Rattle.book.specs.Rows.{tableOfRater};
+ghost use Rattle.pooled_place.specs.PooledPlace.{freshPooledPlace, pooledPlaceOf};
+ghost use Rattle.pooled_place.specs.Words.{pooledPlaceSize, IsPooledPlace};
+ghost use Rattle.events.specs.Events.{tableAfter};
 ghost use Rattle.calls.specs.Answers.{leaves};
-ghost use Rattle.calls.specs.Calls.{changeFault, load, clear};
+ghost use Rattle.calls.specs.Calls.{changeFault, load, clear, event};
 ghost use Rattle.calls.specs.Private.{Fillable};
-ghost use Rattle.desk_c.specs.Image.{wordsFrom};
+ghost use Rattle.desk_c.specs.Image.{wordsFrom, countsFrom};
 ghost use Rattle.desk_c.specs.Private.{deskSize, startOf, withWords};
+use events::Event;
+use pooled_place::POOLED_PLACE;
 use table::PLACE;
 
 // How many numbers a desk takes.
-pub const DESK: usize = 244;
+pub const DESK: usize = 484;
 
 // Where the words of place 1 or 2 start.
 pub fn start_of(place: u32) -> usize
-    ensures { λ r. ⌜ (r ≡ startOf place) × (r + placeSize ≤ deskSize) ⌝ }
+    ensures { λ r. ⌜ (r ≡ startOf place) × (r + pooledPlaceSize ≤ deskSize) ⌝ }
 {
-    if place == 1 { 0 } else { PLACE }
+    if place == 1 { 0 } else { POOLED_PLACE }
 }
 
 // The words of the place that start at `at`.
 pub fn words_at(desk: &[u32], at: usize) -> &[u32]
-    requires { ⌜ at + placeSize ≤ length (now desk) ⌝ }
+    requires { ⌜ at + pooledPlaceSize ≤ length (now desk) ⌝ }
     ensures { λ r. ⌜ now r ≡ wordsFrom (now (desk .entry)) at ⌝ }
+{
+    let end = at + POOLED_PLACE;
+    &desk[at..end]
+}
+
+// The words of its counts.
+pub fn counts_at(desk: &[u32], at: usize) -> &[u32]
+    requires { ⌜ at + pooledPlaceSize ≤ length (now desk) ⌝ }
+    ensures { λ r. ⌜ now r ≡ countsFrom (now (desk .entry)) at ⌝ }
 {
     let end = at + PLACE;
     &desk[at..end]
@@ -33,20 +46,30 @@ pub fn words_at(desk: &[u32], at: usize) -> &[u32]
 
 // Load, into the place that starts at `at`.
 pub fn load_at(desk: &mut [u32], at: usize, book: &[u8], rater: u32) -> u32
-    requires { ⌜ (at + placeSize ≤ length (now desk)) × Fillable (wordsFrom (now desk) at) ⌝ }
+    requires { ⌜ (at + pooledPlaceSize ≤ length (now desk)) × Fillable (wordsFrom (now desk) at) ⌝ }
     ensures { λ r. ⌜ r ≡ changeFault (placeIn (wordsFrom (now (desk .entry)) at)) (load (now (book .entry)) rater) ⌝ }
-    ensures { λ r. let w = now (desk .entry) in ⌜ now (desk .exit) ≡ leaves r w (withWords w at (placeOf (tableOfRater (now (book .entry)) rater))) ⌝ }
+    ensures { λ r. let w = now (desk .entry) in ⌜ now (desk .exit) ≡ leaves r w (withWords w at (pooledPlaceOf (tableOfRater (now (book .entry)) rater))) ⌝ }
 {
-    let end = at + PLACE;
+    let end = at + POOLED_PLACE;
     calls::load(&mut desk[at..end], book, rater)
 }
 
 // Clear, of the place that starts at `at`.
 pub fn clear_at(desk: &mut [u32], at: usize) -> u32
-    requires { ⌜ at + placeSize ≤ length (now desk) ⌝ }
+    requires { ⌜ at + pooledPlaceSize ≤ length (now desk) ⌝ }
     ensures { λ r. ⌜ r ≡ changeFault (placeIn (wordsFrom (now (desk .entry)) at)) clear ⌝ }
-    ensures { λ r. ⌜ now (desk .exit) ≡ leaves r (now (desk .entry)) (withWords (now (desk .entry)) at fresh) ⌝ }
+    ensures { λ r. ⌜ now (desk .exit) ≡ leaves r (now (desk .entry)) (withWords (now (desk .entry)) at freshPooledPlace) ⌝ }
 {
-    let end = at + PLACE;
+    let end = at + POOLED_PLACE;
     calls::clear(&mut desk[at..end])
+}
+
+// An event, at a grade of the table in the place that starts at `at`.
+pub fn event_at(desk: &mut [u32], at: usize, kind: Event, grade: u32) -> u32
+    requires { ⌜ (at + pooledPlaceSize ≤ length (now desk)) × IsPooledPlace (wordsFrom (now desk) at) ⌝ }
+    ensures { λ r. ⌜ r ≡ changeFault (placeIn (wordsFrom (now (desk .entry)) at)) (event kind grade) ⌝ }
+    ensures { λ r. let w = now (desk .entry) in ⌜ now (desk .exit) ≡ leaves r w (withWords w at (pooledPlaceOf (tableAfter kind grade (tableIn (wordsFrom w at))))) ⌝ }
+{
+    let end = at + POOLED_PLACE;
+    calls::book_event(&mut desk[at..end], kind, grade)
 }

@@ -6,7 +6,7 @@ ghost use Rattle.measures.specs.Measures.{measuresOf};
 ghost use Rattle.measures.specs.Brier.{brierOf};
 ghost use Rattle.spread.specs.Spread.{IsSpread};
 ghost use Rattle.calls.specs.Answers.{leaves, compareSays};
-ghost use Rattle.calls.specs.Calls.{cheapest, measures, brier, spread, pool, load, clear};
+ghost use Rattle.calls.specs.Calls.{cheapest, measures, brier, spread, pool, load, clear, event};
 ghost use Rattle.desk.specs.Desk.{freshDesk};
 ghost use Rattle.desk.specs.Calls.{ask, compare, compareShares, fill, write, shortlist, change};
 ghost use Rattle.desk.specs.Calls.{numberOf, after, lentAfter, lentSize};
@@ -20,6 +20,8 @@ mod image;
 
 use crate::image::DESK;
 use crate::image::clear_at;
+use crate::image::counts_at;
+use crate::image::event_at;
 use crate::image::load_at;
 use crate::image::start_of;
 use crate::image::words_at;
@@ -31,9 +33,10 @@ use calls::MeasuresAnswer;
 use calls::SpreadAnswer;
 use cutoff::Verdict;
 use desk::is_place;
+use events::Event;
+use pooled_place::POOLED_PLACE;
 use refusals::NO_PLACE;
 use shortlist::Shortlisted;
-use table::PLACE;
 
 const VERSION: u32 = 9;
 
@@ -89,6 +92,58 @@ pub extern "C" fn desk_clear(desk: &mut [u32; DESK], place: u32) -> u32
     clear_at(desk, start_of(place))
 }
 
+// Books an event at a grade of the table in a place.
+fn book_event(desk: &mut [u32; DESK], place: u32, kind: Event, grade: u32) -> u32
+    requires { ⌜ IsImage (now desk) ⌝ }
+    ensures { λ r. ⌜ r ≡ numberOf (deskIn (now (desk .entry))) (change place (event kind grade)) ⌝ }
+    ensures { λ _. ⌜ now (desk .exit) ≡ imageOf (after (deskIn (now (desk .entry))) (change place (event kind grade))) ⌝ }
+{
+    if !is_place(place) {
+        return NO_PLACE;
+    }
+    event_at(desk, start_of(place), kind, grade)
+}
+
+// A survivor enters a grade, the best being 1.
+#[no_mangle]
+pub extern "C" fn desk_survivor_enters(desk: &mut [u32; DESK], place: u32, grade: u32) -> u32
+    requires { ⌜ IsImage (now desk) ⌝ }
+    ensures { λ r. ⌜ r ≡ numberOf (deskIn (now (desk .entry))) (change place (event Event.SurvivorEnters grade)) ⌝ }
+    ensures { λ _. ⌜ now (desk .exit) ≡ imageOf (after (deskIn (now (desk .entry))) (change place (event Event.SurvivorEnters grade))) ⌝ }
+{
+    book_event(desk, place, Event::SurvivorEnters, grade)
+}
+
+// A survivor leaves.
+#[no_mangle]
+pub extern "C" fn desk_survivor_leaves(desk: &mut [u32; DESK], place: u32, grade: u32) -> u32
+    requires { ⌜ IsImage (now desk) ⌝ }
+    ensures { λ r. ⌜ r ≡ numberOf (deskIn (now (desk .entry))) (change place (event Event.SurvivorLeaves grade)) ⌝ }
+    ensures { λ _. ⌜ now (desk .exit) ≡ imageOf (after (deskIn (now (desk .entry))) (change place (event Event.SurvivorLeaves grade))) ⌝ }
+{
+    book_event(desk, place, Event::SurvivorLeaves, grade)
+}
+
+// A survivor defaults.
+#[no_mangle]
+pub extern "C" fn desk_survivor_defaults(desk: &mut [u32; DESK], place: u32, grade: u32) -> u32
+    requires { ⌜ IsImage (now desk) ⌝ }
+    ensures { λ r. ⌜ r ≡ numberOf (deskIn (now (desk .entry))) (change place (event Event.SurvivorDefaults grade)) ⌝ }
+    ensures { λ _. ⌜ now (desk .exit) ≡ imageOf (after (deskIn (now (desk .entry))) (change place (event Event.SurvivorDefaults grade))) ⌝ }
+{
+    book_event(desk, place, Event::SurvivorDefaults, grade)
+}
+
+// A defaulted firm is removed.
+#[no_mangle]
+pub extern "C" fn desk_defaulted_removed(desk: &mut [u32; DESK], place: u32, grade: u32) -> u32
+    requires { ⌜ IsImage (now desk) ⌝ }
+    ensures { λ r. ⌜ r ≡ numberOf (deskIn (now (desk .entry))) (change place (event Event.DefaultedRemoved grade)) ⌝ }
+    ensures { λ _. ⌜ now (desk .exit) ≡ imageOf (after (deskIn (now (desk .entry))) (change place (event Event.DefaultedRemoved grade))) ⌝ }
+{
+    book_event(desk, place, Event::DefaultedRemoved, grade)
+}
+
 // The three numbers of each grade of the table in a place, into a lent buffer whose further numbers are kept.
 #[no_mangle]
 pub extern "C" fn desk_pool(desk: &[u32; DESK], place: u32, numbers: &mut [u32]) -> u32
@@ -120,7 +175,7 @@ pub extern "C" fn desk_cheapest(
     if !is_place(place) {
         return NO_PLACE;
     }
-    let cheapest = calls::cheapest(words_at(desk, start_of(place)), u, v);
+    let cheapest = calls::cheapest(counts_at(desk, start_of(place)), u, v);
     match cheapest {
         CheapestAnswer::Cheapest(c) => {
             *answer = [c.cutoff as i64, c.cost as i64];
@@ -153,7 +208,7 @@ pub extern "C" fn desk_compare(desk: &[u32; DESK], answer: &mut [u32; 5]) -> u32
     ensures { λ r. ⌜ Left r (VerdictOn (now (desk .entry))) verdictNumbers (now (answer .entry)) (now (answer .exit)) ⌝ }
 {
     put_verdict(
-        calls::compare(words_at(desk, 0), words_at(desk, PLACE)),
+        calls::compare(words_at(desk, 0), words_at(desk, POOLED_PLACE)),
         answer,
     )
 }
@@ -168,7 +223,7 @@ pub extern "C" fn desk_compare_shares(desk: &[u32; DESK], answer: &mut [u32; 5])
     ensures { λ r. ⌜ Left r (VerdictOnShares (now (desk .entry))) verdictNumbers (now (answer .entry)) (now (answer .exit)) ⌝ }
 {
     put_verdict(
-        calls::compare_shares(words_at(desk, 0), words_at(desk, PLACE)),
+        calls::compare_shares(words_at(desk, 0), words_at(desk, POOLED_PLACE)),
         answer,
     )
 }
@@ -196,7 +251,7 @@ pub extern "C" fn desk_measures(desk: &[u32; DESK], place: u32, answer: &mut [i6
     if !is_place(place) {
         return NO_PLACE;
     }
-    let measured = calls::measures(words_at(desk, start_of(place)));
+    let measured = calls::measures(counts_at(desk, start_of(place)));
     match measured {
         MeasuresAnswer::Measures(m) => {
             *answer = [
@@ -229,7 +284,7 @@ pub extern "C" fn desk_brier(desk: &[u32; DESK], place: u32, answer: &mut [i64; 
     if !is_place(place) {
         return NO_PLACE;
     }
-    let scored = calls::brier(words_at(desk, start_of(place)));
+    let scored = calls::brier(counts_at(desk, start_of(place)));
     match scored {
         BrierAnswer::Brier(f) => {
             *answer = [f.numerator as i64, f.denominator as i64];
@@ -269,7 +324,7 @@ pub extern "C" fn desk_write(desk: &[u32; DESK], book: &mut [u8], written: &mut 
     ensures { λ _. ⌜ now (book .exit) ≡ lentAfter (deskIn (now (desk .entry))) (write (now (book .entry))) ⌝ }
     ensures { λ r. let d = deskIn (now (desk .entry)) in ⌜ now (written .exit) ≡ leaves r (now (written .entry)) (lentSize d (write (now (book .entry)))) ⌝ }
 {
-    let answered = book::write(words_at(desk, 0), words_at(desk, PLACE), book);
+    let answered = book::write(counts_at(desk, 0), counts_at(desk, POOLED_PLACE), book);
     match answered {
         Written::Length(n) => {
             *written = n as usize;

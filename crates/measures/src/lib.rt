@@ -118,7 +118,8 @@ fn farthest(place: &[u32], defaulted: u32, survivors: Survivors) -> FarthestCuto
     let mut i = grades;
     let mut caught: u32 = 0;
     let mut lost = Survivors(0);
-    let mut cutoff: u32 = 0;
+    // The best grade that the farthest cutoff turns away.
+    let mut top = grades;
     let mut height: i64 = 0;
     let mut distance: u64 = 0;
     while 0 < i {
@@ -133,10 +134,13 @@ fn farthest(place: &[u32], defaulted: u32, survivors: Survivors) -> FarthestCuto
         if distance < here {
             distance = here;
             height = difference(curve, diagonal);
-            cutoff = (grades - i) as u32;
+            top = i;
         }
     }
-    FarthestCutoff { cutoff, height }
+    FarthestCutoff {
+        cutoff: (grades - top) as u32,
+        height,
+    }
 }
 
 // The measures of the table in a lent place. Without a default or a survivor a denominator is 0.

@@ -50,7 +50,7 @@ pool-rising (r ∷ t) = front-rising (single r) (pool t) (pool-rising t)
 
 -- What joining keeps holds of every block if it holds of every grade.
 module _ (P : Block → Type 0) (joined : (b c : Block) → P b → P c → P (join b c)) where
-  front-every : (b : Block) (bs : List Block) → P b → Every P bs → Every P (front b bs)
+  pub front-every : (b : Block) (bs : List Block) → P b → Every P bs → Every P (front b bs)
   unfolding front
   front-every b [] p h = (p, tt)
   front-every b (c ∷ bs) p h =

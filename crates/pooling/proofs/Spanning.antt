@@ -128,7 +128,7 @@ unfolding bandFrom
 same-band j k n d b zero = refl
 same-band j k n d b (suc m) = rw (same-band j k n d (suc b) m)
 
-same-grades : (j k n d m : ℕ) (rest : List ℕ) → gradesOf (block j n d) m rest ≡ gradesOf (block k n d) m rest
+pub same-grades : (j k n d m : ℕ) (rest : List ℕ) → gradesOf (block j n d) m rest ≡ gradesOf (block k n d) m rest
 unfolding gradesOf
 same-grades j k n d zero rest = refl
 same-grades j k n d (suc m) rest = rw (same-band j k n d 0 14, same-grades j k n d m rest)

@@ -1,9 +1,10 @@
 -- Serves contracts of functions inside the library only: what is promised does not rest on it.
 -- The blocks that the code holds, and their words: three numbers for each, its grades, its obligors and its defaults.
-use Prim.Native.Nat.{ℕ, _+_, _≤_}
-use mathlib.Core.Bool.{cond}
+use Prim.Native.Nat.{ℕ, zero, suc, _+_, _≤_}
+use mathlib.Core.Bool.{Bool, cond, _&&_}
 use mathlib.Core.List.{List, [], _∷_}
-use lib.ListN.{getD}
+use lib.Dec.{eqb}
+use lib.ListN.{getD, drop}
 use Rattle.table.specs.Table.{Table, isOccupied}
 use Rattle.table.specs.Counts.{largest}
 use Rattle.pooling.specs.declared.Block.{Block}
@@ -58,3 +59,18 @@ blocksIn [] = []
 blocksIn (g ∷ []) = []
 blocksIn (g ∷ n ∷ []) = []
 blocksIn (g ∷ n ∷ d ∷ w) = block g n d ∷ blocksIn w
+
+-- The numbers that stand for grades, read back as blocks: neighbours with the same counts are of one block.
+
+abbrev pub shows : Block → ℕ → ℕ → Bool
+shows b d n = eqb (b .defaults) d && eqb (b .obligors .0) n
+
+-- one better grade before some blocks
+unfoldable pub grown : ℕ → ℕ → List Block → List Block
+grown d n [] = block 1 n d ∷ []
+grown d n (b ∷ bs) = cond (shows b d n) (block (b .grades + 1) (b .obligors .0) (b .defaults) ∷ bs) (block 1 n d ∷ b ∷ bs)
+
+-- the blocks of the first k grades of some numbers
+unfoldable pub runsIn : ℕ → List ℕ → List Block
+runsIn zero l = []
+runsIn (suc k) l = grown (getD l 0 0) (getD l 1 0) (runsIn k (drop 3 l))

@@ -5,11 +5,11 @@ ghost use mathlib.Core.List.{_∷_, _++_};
 ghost use lib.ListN.{length, take, drop};
 ghost use Rattle.table.specs.Words.{tableIn, HoldsTable};
 ghost use Rattle.table.specs.Counts.{largest};
-ghost use Rattle.pooling.specs.Pool.{join, rateBelow, front};
-ghost use Rattle.pooling.specs.Private.{Fitting, sumOf, blockWords, blockAt, blocksIn, spanning};
+ghost use Rattle.pooling.specs.Pool.{join, rateBelow, front, Rising};
+ghost use Rattle.pooling.specs.Private.{Fitting, sumOf, blockWords, blockAt, blocksIn, spanning, shows, runsIn};
 ghost use Rattle.pooling.specs.Band.{bandOf};
 ghost use Rattle.pooling.specs.Limits.{listedLimits};
-ghost use Rattle.pooling.specs.Numbers.{gradesOf, pooledInto};
+ghost use Rattle.pooling.specs.Numbers.{gradesOf, numbersOf};
 ghost use Rattle.pooling.specs.Claims.{Claims};
 use table::DEFAULTS;
 use table::Obligors;
@@ -64,6 +64,13 @@ impl Block {
     {
         (self.defaults as u64) * (next.obligors.0 as u64)
             < (next.defaults as u64) * (self.obligors.0 as u64)
+    }
+
+    // Whether it has these counts.
+    pub fn shows(self, defaults: u32, obligors: Obligors) -> bool
+        ensures { λ r. ⌜ r ≡ shows self defaults (obligors .0) ⌝ }
+    {
+        self.defaults == defaults && self.obligors.0 == obligors.0
     }
 
     // The band of the default rate, which is at most `most`: searched downwards from there in the lent list of limits. Rate and limits are
@@ -186,21 +193,22 @@ fn write_block(x: Block, band: u32, end: usize, out: &mut [u32])
     }
 }
 
-// Pools the table in a lent place: for each grade its block's defaults, obligors and band. The further numbers of `out` are kept.
-// From the worst block to the best the rates fall, so no band is above that of the block before.
-pub fn pool(place: &[u32], out: &mut [u32])
-    requires { ⌜ HoldsTable (now place) × (3 * length (tableIn (now place)) ≤ length (now out)) ⌝ }
-    ensures { λ _. ⌜ now (out .exit) ≡ pooledInto (tableIn (now (place .entry))) (now (out .entry)) ⌝ }
+// Writes the numbers of blocks, which end the lent items from `start` on and have so many grades together: for each grade its block's defaults,
+// obligors and band. The further numbers of `out` are kept. From the worst block to the best the rates fall, so no band is above that of the block
+// before.
+pub fn write_blocks(items: &[u32; BLOCKS], start: usize, grades: usize, out: &mut [u32])
+    requires held { ⌜ (drop start (now items) ≡ blockWords (blocksIn (drop start (now items)))) × (length (now items) ≡ 120) × (start < 120) ⌝ }
+    requires rising { ⌜ Rising (blocksIn (drop start (now items))) ⌝ }
+    requires room { ⌜ (sumOf (blocksIn (drop start (now items))) .grades ≡ grades) × (grades ≤ 40) × (3 * grades ≤ length (now out)) ⌝ }
+    ensures { λ _. ⌜ now (out .exit) ≡ numbersOf (blocksIn (drop start (now (items .entry)))) (drop (3 * grades) (now (out .entry))) ⌝ }
 {
     let limits = BAND_LIMITS; // lent, since a search that names the constant stores it at every step
-    let mut items = [0; BLOCKS];
-    let start = blocks_of(place, &mut items);
-    let mut end = NUMBERS * grades_of(place);
+    let mut end = NUMBERS * grades;
     let mut at = BLOCKS;
     let mut band: usize = 14;
     loop {
         at -= 3;
-        let x = block_at(&items, at);
+        let x = block_at(items, at);
         band = x.band(&limits, band);
         write_block(x, band as u32, end, &mut *out);
         if at == start {
@@ -208,6 +216,41 @@ pub fn pool(place: &[u32], out: &mut [u32])
         }
         end -= NUMBERS * (x.grades as usize);
     }
+}
+
+// Stores the blocks whose numbers these are, as `write_blocks` wrote them for so many grades, at the end of `items`, and answers where they
+// start. What stands before means nothing. From the worst grade to the best, a grade with the numbers of the one before is of the same block.
+pub fn blocks_in(numbers: &[u32], grades: usize, items: &mut [u32; BLOCKS]) -> usize
+    requires { ⌜ (1 ≤ grades) × (grades ≤ 40) × (3 * grades ≤ length (now numbers)) × (length (now items) ≡ 120) ⌝ }
+    ensures blocks { λ r. ⌜ (drop r (now (items .exit)) ≡ blockWords (runsIn grades (now (numbers .entry)))) × (r < 120) ⌝ }
+    ensures length { λ _. ⌜ length (now (items .exit)) ≡ 120 ⌝ }
+{
+    let mut i = NUMBERS * grades - NUMBERS;
+    let mut x = Block {
+        grades: 1,
+        obligors: obligors_at(numbers, i + 1),
+        defaults: numbers[i],
+    };
+    let mut at = BLOCKS;
+    while 0 < i {
+        i -= NUMBERS;
+        let defaults = numbers[i];
+        let obligors = obligors_at(numbers, i + 1);
+        if x.shows(defaults, obligors) {
+            x.grades += 1;
+        } else {
+            at -= 3;
+            store_block(&mut *items, at, x);
+            x = Block {
+                grades: 1,
+                obligors,
+                defaults,
+            };
+        }
+    }
+    at -= 3;
+    store_block(&mut *items, at, x);
+    at
 }
 
 // What is claimed of pooling: the function does nothing, its contract is all claims of this crate.

@@ -76,7 +76,7 @@ fn report(book: &[u8]) {
         Ack::Done => {
             let mut pooled = [0u32; NUMBERS * GRADES];
             desk.pool(1, &mut pooled);
-            grades(pooled, desk.first.grades);
+            grades(pooled, desk.first.place.grades);
             gini(desk);
         }
         Ack::Refused(n) => refused(n),

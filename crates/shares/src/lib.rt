@@ -1,15 +1,16 @@
 // The comparison of two scales on shares, for books of different sizes: a cutoff costs u (D - y) / D + v x / S.
 ghost use mathlib.Core.Path.{_≡_};
-ghost use Rattle.table.specs.Words.{tableIn, HoldsTable};
+ghost use Rattle.table.specs.Words.{tableIn};
 ghost use Rattle.table.specs.Counts.{totalsOf};
+ghost use Rattle.pooled_place.specs.Words.{HoldsPooledTable};
 ghost use Rattle.shares.specs.Judge.{Shareable, totalWeights};
 ghost use Rattle.shares.specs.Verdict.{IsVerdictByShares};
 ghost use Rattle.shares.specs.Claims.{Claims};
 use cutoff::Verdict;
 use cutoff::Weights;
 use cutoff::where_dearer;
+use pooled_place::listed_blocks;
 use pooling::BLOCKS;
-use pooling::blocks_of;
 use table::Totals;
 
 // The most obligors of a table that is compared on shares.
@@ -27,12 +28,12 @@ fn weights_of(t: Totals) -> Weights
     }
 }
 
-// The verdict on shares on the tables in two lent places, whose totals are these.
+// The verdict on shares on the tables in two lent places, by their pooled lists, whose totals are these.
 // The prices of a block with d defaults and s survivors of a table with D and S are u = s D and v = d S, at most D S. With at most 100,000
 // obligors that is at most 50,000 times 50,000. The cheapest cutoff of the table itself then costs the whole number s (D - y) + d x, at most D S
 // too. Both sides of a comparison, times the other table's D S, and their difference with its sign, fit in 64 bits.
 pub fn judge(first: &[u32], totals1: Totals, second: &[u32], totals2: Totals) -> Verdict
-    requires tables { ⌜ HoldsTable (now first) × HoldsTable (now second) ⌝ }
+    requires tables { ⌜ HoldsPooledTable (now first) × HoldsPooledTable (now second) ⌝ }
     requires shareable { ⌜ Shareable (tableIn (now first)) × Shareable (tableIn (now second)) ⌝ }
     requires totals { ⌜ (totals1 ≡ totalsOf (tableIn (now first))) × (totals2 ≡ totalsOf (tableIn (now second))) ⌝ }
     ensures { λ r. ⌜ IsVerdictByShares (tableIn (now (first .entry))) (tableIn (now (second .entry))) r ⌝ }
@@ -40,9 +41,9 @@ pub fn judge(first: &[u32], totals1: Totals, second: &[u32], totals2: Totals) ->
     let weights1 = weights_of(totals2);
     let weights2 = weights_of(totals1);
     let mut ours = [0u32; BLOCKS];
-    let ours_from = blocks_of(first, &mut ours);
+    let ours_from = listed_blocks(first, &mut ours);
     let mut theirs = [0u32; BLOCKS];
-    let theirs_from = blocks_of(second, &mut theirs);
+    let theirs_from = listed_blocks(second, &mut theirs);
     let our_blocks = &ours[ours_from..];
     let their_blocks = &theirs[theirs_from..];
     let first_found = where_dearer(our_blocks, weights1, their_blocks, weights2);

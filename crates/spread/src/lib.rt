@@ -1,19 +1,19 @@
 // The spread record: two floats, each with a proved error bound.
 ghost use Prim.Native.Nat.{_-_, _*_, _≤_};
-ghost use mathlib.Core.Path.{_≡_};
-ghost use mathlib.Core.List.{map};
-ghost use Rattle.table.specs.Table.{Every, Occupied, Sound};
-ghost use Rattle.table.specs.Words.{tableIn, HoldsTable};
+ghost use Rattle.table.specs.Words.{tableIn};
 ghost use Rattle.pooling.specs.Fraction.{ratio};
-ghost use Rattle.pooling.specs.Pool.{asGrade};
-ghost use Rattle.pooling.specs.Private.{blockWords, blocksIn};
+ghost use Rattle.pooling.specs.Private.{spanning};
+ghost use Rattle.pooled_place.specs.Words.{HoldsPooledTable};
 ghost use Rattle.spread.specs.Near.{Within};
 ghost use Rattle.spread.specs.Spread.{IsSpread, residualSum};
 ghost use Rattle.spread.specs.Claims.{Claims};
-use pooling::BLOCKS;
-use pooling::block_at;
-use pooling::blocks_of;
+use pooled_place::counts_of;
+use pooled_place::place_grades;
+use pooling::Block;
+use pooling::NUMBERS;
 use table::Obligors;
+use table::PLACE;
+use table::obligors_at;
 use table::totals_of;
 
 // The two numbers of document 01's spread record.
@@ -30,37 +30,49 @@ fn quotient(defaults: u32, obligors: Obligors) -> f64
     ensures { λ r. ⌜ Within r (ratio (defaults * (obligors .0 - defaults)) (obligors .0)) 36 ⌝ }
 {
     let survivors = obligors.survivors(defaults);
-    ((defaults as u64) * (survivors.0 as u64)) as f64 / obligors.0 as f64
+    ((defaults as u64) * (survivors.0 as u64)) as i64 as f64 / obligors.0 as f64
 }
 
-// The sum over the blocks in these words, best first, of block defaults times block survivors over block obligors. The blocks, as grades,
-// are a table, and none is empty.
-fn residual(items: &[u32]) -> f64
-    requires blocks { ⌜ now items ≡ blockWords (blocksIn (now items)) ⌝ }
-    requires sound { ⌜ Sound (map asGrade (blocksIn (now items))) × Every Occupied (map asGrade (blocksIn (now items))) ⌝ }
-    ensures { λ r. ⌜ Within r (residualSum (blocksIn (now (items .entry)))) 29 ⌝ }
+// The sum over the blocks of the table in a lent place, best first, of block defaults times block survivors over block obligors. A grade of the
+// pooled list with the numbers of the one before is of the same block.
+fn residual(place: &[u32]) -> f64
+    requires { ⌜ HoldsPooledTable (now place) ⌝ }
+    ensures { λ r. ⌜ Within r (residualSum (spanning (tableIn (now (place .entry))))) 29 ⌝ }
 {
+    let end = PLACE + NUMBERS * place_grades(place);
+    let mut x = Block {
+        grades: 0,
+        obligors: Obligors(0),
+        defaults: 0,
+    };
     let mut sum = 0.0;
-    let mut at: usize = 0;
-    while at < items.len() {
-        let x = block_at(items, at);
-        sum = sum + quotient(x.defaults, x.obligors);
-        at += 3;
+    let mut at = PLACE;
+    while at < end {
+        let defaults = place[at];
+        let obligors = obligors_at(place, at + 1);
+        at += NUMBERS;
+        if !x.shows(defaults, obligors) {
+            sum = sum + quotient(defaults, obligors);
+            x = Block {
+                grades: 0,
+                obligors,
+                defaults,
+            };
+        }
     }
     sum
 }
 
-// The spread of the table in a lent place. Document 01 leaves the two floats free within their bounds, so the contract limits them.
+// The spread of the table in a lent place, by its pooled list. Document 01 leaves the two floats free within their bounds, so the contract limits
+// them.
 pub fn spread_of(place: &[u32]) -> Spread
-    requires { ⌜ HoldsTable (now place) ⌝ }
+    requires { ⌜ HoldsPooledTable (now place) ⌝ }
     ensures { λ r. ⌜ IsSpread (tableIn (now (place .entry))) r ⌝ }
 {
-    let t = totals_of(place);
-    let mut items = [0; BLOCKS];
-    let start = blocks_of(place, &mut items);
+    let t = totals_of(counts_of(place));
     Spread {
         total: quotient(t.defaults, t.obligors),
-        residual: residual(&items[start..]),
+        residual: residual(place),
     }
 }
 

@@ -2,10 +2,11 @@
 ghost use Prim.Native.Nat.{_+_, _-_, _≤_, _<_};
 ghost use mathlib.Core.Path.{_≡_};
 ghost use mathlib.Core.Bool.{cond};
-ghost use lib.ListN.{length, getD};
+ghost use lib.ListN.{length, getD, replicate};
 ghost use lib.Seq.{paste};
+ghost use Rattle.table.specs.Table.{obligorsIn};
 ghost use Rattle.table.specs.Place.{fresh, SoundPlace};
-ghost use Rattle.table.specs.Words.{placeSize, wordsOf, columnIn, placeIn, tableIn, HoldsTable};
+ghost use Rattle.table.specs.Words.{placeSize, wordsOf, columnIn, placeIn, tableIn, HoldsTable, IsPlace};
 ghost use Rattle.table.specs.Counts.{largest, capped, totalsOf};
 
 // The most grades of a table.
@@ -143,16 +144,23 @@ pub fn is_loaded(place: &[u32]) -> bool
     place[LOADED] == 1
 }
 
+// Makes all of some words 0.
+pub fn wipe_words(words: &mut [u32])
+    ensures { λ _. ⌜ now (words .exit) ≡ replicate (length (now (words .entry))) 0 ⌝ }
+{
+    let mut i: usize = 0;
+    while i < words.len() {
+        words[i] = 0;
+        i += 1;
+    }
+}
+
 // Makes the words of a lent place those of an empty one.
 pub fn wipe(place: &mut [u32])
     requires { ⌜ length (now place) ≡ placeSize ⌝ }
     ensures { λ _. ⌜ now (place .exit) ≡ wordsOf fresh ⌝ }
 {
-    let mut i: usize = 0;
-    while i < PLACE {
-        place[i] = 0;
-        i += 1;
-    }
+    wipe_words(place);
 }
 
 // The number that marks a loaded place.
@@ -219,6 +227,21 @@ impl Place {
             loaded: words[LOADED] == 1,
         }
     }
+}
+
+// N of the table in a lent place alone. It adds up all 40 counts, of which those behind the grades are 0: the compiler makes a straight line of
+// a loop whose length it knows.
+pub fn obligors_of(place: &[u32]) -> Obligors
+    requires { ⌜ IsPlace (now place) ⌝ }
+    ensures { λ r. ⌜ r .0 ≡ obligorsIn (tableIn (now (place .entry))) ⌝ }
+{
+    let mut all = Obligors(0);
+    let mut i: usize = 0;
+    while i < GRADES {
+        all = all.plus(obligors_at(place, i));
+        i += 1;
+    }
+    all
 }
 
 // The totals of the table in a lent place.

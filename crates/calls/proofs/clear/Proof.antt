@@ -8,13 +8,13 @@ use Rattle.calls.proofs.clear.Tie as tie
 
 returns : tie.Need-returns
 unfolding changeFault
-returns c = (empty-at _ _ (c .before .is-loaded .ensures) (c .if1 .taken), refl)
+returns c = (empty-at _ _ (c .before .place-loaded .ensures) (c .if1 .taken), refl)
 
 returns-2 : tie.Need-returns-2
 unfolding changeFault
 returns-2 c =
     let e = c .before .before .before .before in
-    (loaded-at _ _ (e .before .is-loaded .ensures) (e .if1 .left), c .before .before .wipe .ensures)
+    (loaded-at _ _ (e .before .place-loaded .ensures) (e .if1 .left), c .before .before .wipe-place .ensures)
 
 pub clear-spec : {M : Type 1} → statement M
 clear-spec =

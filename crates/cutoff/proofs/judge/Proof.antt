@@ -12,22 +12,22 @@ use Rattle.cutoff.proofs.judge.Statement.{statement}
 use Rattle.cutoff.proofs.judge.Tie as tie
 
 -- The start of the function, the two tables that it is called with, and the words that are lent to the searches.
-abbrev start : tie.After-blocks-of2 → tie.Start
+abbrev start : tie.After-listed-blocks2 → tie.Start
 start c = c .before .before .before .before .before .before
 
-abbrev table₁ : tie.After-blocks-of2 → Table
+abbrev table₁ : tie.After-listed-blocks2 → Table
 table₁ c = tableIn (now (start c .args .first))
 
-abbrev table₂ : tie.After-blocks-of2 → Table
+abbrev table₂ : tie.After-listed-blocks2 → Table
 table₂ c = tableIn (now (start c .args .second))
 
-judges : (c : tie.After-blocks-of2) →
-    let f = c .before .before .blocks-of in
-    let g = c .blocks-of2 in
+judges : (c : tie.After-listed-blocks2) →
+    let f = c .before .before .listed-blocks in
+    let g = c .listed-blocks2 in
     Judges once once (table₁ c) (table₂ c) (take (120 - f .result) (drop (f .result) (f .last .1 .0))) (take (120 - g .result) (drop (g .result) (g .last .1 .0)))
 judges c =
-    let f = c .before .before .blocks-of in
-    let g = c .blocks-of2 in
+    let f = c .before .before .listed-blocks in
+    let g = c .listed-blocks2 in
     let (tables, (defaults, survivors)) = start c .pre in
     record {
       sound₁ = tables .0 .sound;

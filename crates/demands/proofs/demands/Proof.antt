@@ -12,7 +12,7 @@ use Rattle.measures.proofs.Claimed as measures
 use Rattle.desk.proofs.Asked.{asked-sound}
 use Rattle.desk_c.proofs.Images.{is-image}
 use Rattle.demands.specs.History.{deskAfter}
-use Rattle.demands.proofs.History.{places-hold, tables-sound, rates-never-fall, desk-sound}
+use Rattle.demands.proofs.History.{places-hold, tables-sound, rates-never-fall, desk-sound, lists-pooled}
 use Rattle.demands.proofs.Faults.{answered, never-five}
 use Rattle.demands.proofs.Loads.{load-tells, load-means, load-takes, load-means-empty, load-tells-fall, load-means-fall}
 use Rattle.demands.proofs.Kept.{refused-kept, written-only, others-kept}
@@ -21,6 +21,7 @@ use Rattle.demands.proofs.EntryPoints.{served}
 use Rattle.demands.proofs.Accepted.{regression-written, repeats-written, measured-mixed, loads-back, writes-back}
 use Rattle.demands.proofs.Verdicts.{compare-right, shares-right, agree}
 use Rattle.demands.proofs.Shortlists.{shortlist-right, raters-compared}
+use Rattle.events.proofs.Tables.{announced-kept, others-kept as others-kept-by-events, length-after}
 use Rattle.demands.proofs.demands.Statement.{statement}
 use Rattle.demands.proofs.demands.Tie as tie
 
@@ -28,6 +29,8 @@ returns : tie.Need-returns
 returns c = record {
   every-desk-is-sound = desk-sound;
   places-hold-what-was-loaded = places-hold;
+  kept-lists-are-pooled = lists-pooled;
+  events-change-one-grade = (announced-kept, others-kept-by-events, length-after);
   every-held-table-is-sound = tables-sound;
   announced-rates-never-fall = rates-never-fall;
   calls-leave-images = λ calls. is-image (deskAfter calls) (desk-sound calls);

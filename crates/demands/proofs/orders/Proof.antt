@@ -12,12 +12,13 @@ use Rattle.book.specs.Writing.{writeFault}
 use Rattle.shortlist.specs.Checks.{someChecks, equalChecks, sameChecks, shortlistFault}
 use Rattle.calls.specs.Calls.{questionFault, fillFault, changeFault, compareFault, pairChecks}
 use Rattle.calls.specs.Shares.{sharesFault, sharesChecks}
+use Rattle.events.specs.Events.{eventFault}
 use Rattle.demands.specs.Orders.{Orders}
 use Rattle.demands.proofs.orders.Statement.{statement}
 use Rattle.demands.proofs.orders.Tie as tie
 
 rows : Orders
-unfolding occupied survivorsIn defaultsIn obligorsIn gradesFrom placeOf twoAt fourAt twoBytes fourBytes fault firstFault headChecks raterChecks tableChecks tablesFaultFrom layoutFault gradeIn gradesIn tablesIn rowChecks laterChecks laterFault rowsFault totalChecks tableFault readFault tableFaults bookFault encodeGrade encodeGrades encodeTable encodeTables offsets endsAt encode writeFault someChecks equalChecks sameChecks shortlistFault questionFault fillFault changeFault compareFault pairChecks sharesFault sharesChecks
+unfolding occupied survivorsIn defaultsIn obligorsIn gradesFrom placeOf twoAt fourAt twoBytes fourBytes fault firstFault headChecks raterChecks tableChecks tablesFaultFrom layoutFault gradeIn gradesIn tablesIn rowChecks laterChecks laterFault rowsFault totalChecks tableFault readFault tableFaults bookFault encodeGrade encodeGrades encodeTable encodeTables offsets endsAt encode writeFault someChecks equalChecks sameChecks shortlistFault questionFault fillFault changeFault compareFault pairChecks sharesFault sharesChecks eventFault
 rows = record {
   load-1-before-21-below = refl;
   load-1-before-21-above = refl;
@@ -133,6 +134,12 @@ rows = record {
   shortlist-24-before-13 = refl;
   shortlist-25-before-13-defaults = refl;
   shortlist-25-before-13-survivors = refl;
+  event-1-before-22-below = (refl, refl, refl, refl);
+  event-1-before-22-above = (refl, refl, refl, refl);
+  event-22-before-36-below = (refl, refl, refl, refl);
+  event-22-before-36-above = (refl, refl, refl, refl);
+  event-36-before-37-and-38-below = (refl, refl, refl, refl);
+  event-36-before-37-and-38-above = (refl, refl, refl, refl);
 }
 
 pub orders-spec : {M : Type 1} → statement M

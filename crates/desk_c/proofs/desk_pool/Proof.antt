@@ -3,13 +3,13 @@ use mathlib.Core.Path.{_≡_, refl, _∙_}
 use native.Mathlib.Omega.{arith}
 use borrow.Author.Needs.{needs}
 use denote.Ref.{now}
-use Rattle.table.specs.Words.{wordsOf}
+use Rattle.pooled_place.specs.Words.{pooledPlaceWords}
 use Rattle.calls.specs.Calls.{pool}
 use Rattle.calls.proofs.Answered.{left-alone}
-use Rattle.desk.specs.Desk.{placeAt}
+use Rattle.desk.specs.Desk.{pooledPlaceAt}
 use Rattle.desk.specs.Calls.{placeFault}
 use Rattle.desk.proofs.Number.{there, missing}
-use Rattle.desk.proofs.Asked.{words-place, fill-number, fill-buffer}
+use Rattle.desk.proofs.Asked.{words-pooled, fill-number, fill-buffer}
 use Rattle.desk_c.specs.Image.{deskIn}
 use Rattle.desk_c.proofs.Images.{words-of}
 use Rattle.desk_c.proofs.desk_pool.Statement.{statement}
@@ -24,14 +24,14 @@ returns c =
 abbrev start : tie.After-words-at → tie.Start
 start c = c .before .before .before .before .before .before
 
-at : (c : tie.After-words-at) → now (c .words-at .result) ≡ wordsOf (placeAt (deskIn (now (start c .args .desk))) (start c .args .place))
+at : (c : tie.After-words-at) → now (c .words-at .result) ≡ pooledPlaceWords (pooledPlaceAt (deskIn (now (start c .args .desk))) (start c .args .place))
 at c = c .words-at .ensures ∙ words-of (start c .pre) (start c .args .place) _ (c .before .start-of .ensures .0)
 
 here : (c : tie.After-words-at) → placeFault (start c .args .place) ≡ 0
 here c = let l = c .before .before .before in there _ _ (l .before .is-place .ensures) (l .if1 .left)
 
 pool-requires : tie.Need-pool-requires
-pool-requires c κs = let k = c .before in words-place _ (start k .args .place) (start k .pre .sound) (at k)
+pool-requires c κs = let k = c .before in words-pooled _ (start k .args .place) (start k .pre .sound) (at k)
 
 returns-2 : tie.Need-returns-2
 returns-2 c =

@@ -4,14 +4,14 @@ use borrow.Author.Needs.{needs}
 use denote.Ref.{now}
 use Rattle.table.specs.declared.Place.{Place}
 use Rattle.table.specs.Place.{tableOf}
-use Rattle.table.specs.Words.{wordsOf}
+use Rattle.pooled_place.specs.Words.{pooledPlaceWords}
 use Rattle.spread.specs.Spread.{IsSpread}
 use Rattle.calls.specs.Answers.{Limited, spreadSays}
 use Rattle.calls.specs.Calls.{spread}
-use Rattle.desk.specs.Desk.{placeAt}
+use Rattle.desk.specs.Desk.{pooledPlaceAt}
 use Rattle.desk.specs.Calls.{placeFault, ask, numberOf}
 use Rattle.desk.proofs.Number.{there, missing}
-use Rattle.desk.proofs.Asked.{words-place, limited}
+use Rattle.desk.proofs.Asked.{words-pooled, limited}
 use Rattle.desk_c.specs.Image.{deskIn, tableOn}
 use Rattle.desk_c.specs.Numbers.{spreadNumbers}
 use Rattle.desk_c.proofs.Images.{words-of}
@@ -26,7 +26,7 @@ returns c = (c .before .before .pre .exact, (missing _ _ _ (c .before .is-place 
 abbrev start : tie.After-words-at → tie.Start
 start c = c .before .before .before .before .before
 
-at : (c : tie.After-words-at) → now (c .words-at .result) ≡ wordsOf (placeAt (deskIn (now (start c .args .desk))) (start c .args .place))
+at : (c : tie.After-words-at) → now (c .words-at .result) ≡ pooledPlaceWords (pooledPlaceAt (deskIn (now (start c .args .desk))) (start c .args .place))
 at c = c .words-at .ensures ∙ words-of (start c .pre) (start c .args .place) _ (c .before .start-of .ensures .0)
 
 here : (c : tie.After-words-at) → placeFault (start c .args .place) ≡ 0
@@ -61,7 +61,7 @@ desk-spread-spec =
     returns
     (λ c κs. search needs)
     (λ c κs. search needs)
-    (λ c κs. words-place _ (start c .args .place) (start c .pre .sound) (at c))
+    (λ c κs. words-pooled _ (start c .args .place) (start c .pre .sound) (at c))
     (λ c. search needs)
     (λ c. search needs)
     returns-2

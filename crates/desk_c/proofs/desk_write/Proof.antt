@@ -1,46 +1,50 @@
 -- `desk_write` meets its contract.
 use mathlib.Core.Path.{_≡_, refl, sym, ap, _∙_}
 use mathlib.Core.List.{List}
-use Prim.Native.Nat.{ℕ}
 use borrow.Author.Needs.{needs}
 use denote.Ref.{now}
 use lib.ListN.{length}
+use Rattle.table.specs.declared.Place.{Place}
 use Rattle.table.specs.Table.{Table}
+use Rattle.table.specs.Words.{placeIn}
 use Rattle.book.specs.Encode.{bookSize}
-use Rattle.book.specs.Writing.{writeFault, writeAnswer, bufferAfter}
+use Rattle.book.specs.Writing.{tablesOf, writeFault, writeAnswer, bufferAfter}
 use Rattle.book.specs.Private.{lentTables}
 use Rattle.book.proofs.Books.{writable}
 use Rattle.calls.specs.Answers.{answer}
 use Rattle.desk.specs.Answers.{writtenSays}
 use Rattle.desk.specs.Calls.{loadedTables}
-use Rattle.desk.proofs.Asked.{words-place, says-written}
-use Rattle.desk_c.specs.Image.{wordsFrom, deskIn}
-use Rattle.desk_c.proofs.Images.{words-of}
+use Rattle.desk.proofs.Asked.{words-place, place-is, says-written}
+use Rattle.desk_c.specs.Image.{deskIn}
+use Rattle.desk_c.proofs.Images.{counts-of}
 use Rattle.desk_c.proofs.Answered.{accepted-is, kept}
 use Rattle.desk_c.proofs.desk_write.Statement.{statement}
 use Rattle.desk_c.proofs.desk_write.Tie as tie
 
 -- both places
-abbrev start : tie.After-words-at2 → tie.Start
+abbrev start : tie.After-counts-at2 → tie.Start
 start c = c .before .before .before .before .before
 
 write-requires : tie.Need-write-requires
 write-requires c κs =
     let k = c .before in
     let i = start k .pre in (
-      writable (words-place _ 1 (i .sound) (k .before .before .words-at .ensures ∙ words-of i 1 0 refl)),
-      writable (words-place _ 2 (i .sound) (k .words-at2 .ensures ∙ words-of i 2 122 refl)),
+      writable (words-place _ 1 (i .sound) (k .before .before .counts-at .ensures ∙ counts-of i 1 0 refl)),
+      writable (words-place _ 2 (i .sound) (k .counts-at2 .ensures ∙ counts-of i 2 242 refl)),
     )
 
-abbrev places : tie.After-write → tie.After-words-at2
+abbrev places : tie.After-write → tie.After-counts-at2
 places c = c .before .before
 
 tables : (c : tie.After-write)
-    → lentTables (now (places c .before .before .words-at .result)) (now (places c .words-at2 .result)) ≡ loadedTables (deskIn (now (start (places c) .args .desk)))
+    → lentTables (now (places c .before .before .counts-at .result)) (now (places c .counts-at2 .result)) ≡ loadedTables (deskIn (now (start (places c) .args .desk)))
 tables c =
     let k = places c in
-    ap (λ (u : List ℕ). lentTables u (now (k .words-at2 .result))) (k .before .before .words-at .ensures)
-    ∙ ap (λ (v : List ℕ). lentTables (wordsFrom (now (start k .args .desk)) 0) v) (k .words-at2 .ensures)
+    let i = start k .pre in
+    let d = deskIn (now (start k .args .desk)) in
+    let first = place-is d 1 (i .sound) (k .before .before .counts-at .ensures ∙ counts-of i 1 0 refl) in
+    let second = place-is d 2 (i .sound) (k .counts-at2 .ensures ∙ counts-of i 2 242 refl) in
+    ap (λ (p : Place). tablesOf p (placeIn (now (k .counts-at2 .result)))) first ∙ ap (λ (p : Place). tablesOf (d .first .place) p) second
 
 says : (c : tie.After-write) →
     let a = start (places c) .args in

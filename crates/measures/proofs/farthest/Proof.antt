@@ -19,7 +19,7 @@ use Rattle.table.specs.Place.{gradeAt, tableOf}
 use Rattle.table.specs.Words.{placeIn}
 use Rattle.table.proofs.Arithmetic.{counts-le}
 use Rattle.table.proofs.Suffix.{suffix, suffix-end, length-grades, small, sound-small, few-counts}
-use Rattle.table.proofs.Words.{Turn, turn}
+use Rattle.table.proofs.Words.{Turn, turn, few-in}
 use Rattle.cutoff.specs.Best.{best}
 use Rattle.measures.specs.Measures.{height, farther}
 use Rattle.measures.specs.Private.{farthestOf}
@@ -32,12 +32,13 @@ use Rattle.measures.proofs.farthest.Tie as tie
 abbrev bestFrom : Place → ℕ → ℕ
 bestFrom p i = best farther (height (tableOf p)) (p .grades - i)
 
--- h is a height in 64 bits, which `toZ` reads, and far its absolute size.
+-- g is the best grade that the cutoff turns away, h its height in 64 bits, which `toZ` reads, and far the absolute size of that.
 record Tried (p : Place) (i y : ℕ) (x : Survivors) (g h far : ℕ) : Type 0 where
   pub inside : i ≤ p .grades
   pub caught : y ≡ defaultsIn (suffix p i)
   pub lost : x .0 ≡ survivorsIn (suffix p i)
-  pub cutoff : g ≡ bestFrom p i
+  pub grade : g ≤ p .grades
+  pub cutoff : p .grades - g ≡ bestFrom p i
   pub high : toZ w64 h ≡ height (tableOf p) (bestFrom p i)
   pub distance : far ≡ natAbs (height (tableOf p) (bestFrom p i))
 
@@ -91,16 +92,24 @@ module _ {p : Place} {i y y₀ a b g h far here : ℕ} {x x₀ : Survivors}
   size : here ≡ natAbs (height (tableOf p) (p .grades - (i - 1)))
   size = rw (← n .here) e
 
-  taken : far < here → (z : ℤ) → z ≡ subℕ a b → Tried p (i - 1) y x (p .grades - (i - 1)) (ofZ w64 z) here
+  taken : far < here → (z : ℤ) → z ≡ subℕ a b → Tried p (i - 1) y x (i - 1) (ofZ w64 z) here
   taken test z is =
       let it = best-new (height (tableOf p)) (n .number) (t .distance) size test in
       let signed = toZ-ofZ w64 z (rw is (difference-fits (n .small-a) (n .small-b))) ∙ is ∙ n .here in
-      record { inside = n .inside; caught = n .caught; lost = n .lost; cutoff = rw it; high = rw it signed; distance = rw it size }
+      record { inside = n .inside; caught = n .caught; lost = n .lost; grade = n .inside; cutoff = rw it; high = rw it signed; distance = rw it size }
 
   left : here ≤ far → Tried p (i - 1) y x g h far
   left test =
       let it = best-kept (height (tableOf p)) (n .number) (t .distance) size test in
-      record { inside = n .inside; caught = n .caught; lost = n .lost; cutoff = rw it (t .cutoff); high = rw it (t .high); distance = rw it (t .distance) }
+      record {
+        inside = n .inside;
+        caught = n .caught;
+        lost = n .lost;
+        grade = t .grade;
+        cutoff = rw it (t .cutoff);
+        high = rw it (t .high);
+        distance = rw it (t .distance);
+      }
 
 none : (t : Table) → pos 0 ≡ height t 0
 unfolding defaultsIn survivorsIn
@@ -122,6 +131,7 @@ loop-holds c =
       inside = omega arith;
       caught = rw end;
       lost = rw end;
+      grade = omega arith;
       cutoff = rw sub-self;
       high = rw sub-self (none (tableOf p));
       distance = rw sub-self (ap natAbs (none (tableOf p)));
@@ -158,8 +168,7 @@ loop-again : tie.Need-loop-again Inv-loop μ-loop
 loop-again c =
     let a = c .before .before in
     let l = a .before .before .before .before .before .before .before .before in
-    rw (l .before .grades-of .ensures)
-    (taken (reached (a .before)) (l .loop .inv) (a .apart .ensures) (c .before .if1 .taken) (c .difference .result) (c .difference .ensures))
+    taken (reached (a .before)) (l .loop .inv) (a .apart .ensures) (c .before .if1 .taken) (c .difference .result) (c .difference .ensures)
 
 loop-again-2 : tie.Need-loop-again-2 Inv-loop μ-loop
 loop-again-2 c =
@@ -167,15 +176,15 @@ loop-again-2 c =
     let l = a .before .before .before .before .before .before .before .before in
     left (reached (a .before)) (l .loop .inv) (a .apart .ensures) (c .if1 .left)
 
-farthest-is : (p : Place) (i y g h far : ℕ) (x : Survivors) → i ≡ 0 → Tried p i y x g h far
-    → record { cutoff = g; height = toZ w64 h } ≡ farthestOf (tableOf p)
+farthest-is : (p : Place) (n i y g h far : ℕ) (x : Survivors) → n ≡ p .grades → i ≡ 0 → Tried p i y x g h far
+    → record { cutoff = n - g; height = toZ w64 h } ≡ farthestOf (tableOf p)
 unfolding farthestOf
-farthest-is p i y g h far x e t =
-    let all : length (tableOf p) ≡ p .grades - i = omega (arith, length-grades p 0 (p .grades)) in
-    rw (all, ← t .high, ← t .cutoff)
+farthest-is p n i y g h far x all e t =
+    let cutoffs : length (tableOf p) ≡ p .grades - i = omega (arith, length-grades p 0 (p .grades)) in
+    rw (cutoffs, all, ← t .high, ← t .cutoff)
 
 returns : tie.Need-returns Inv-loop μ-loop
-returns c = farthest-is _ _ _ _ _ _ _ (omega arith) (c .before .loop .inv)
+returns c = farthest-is _ _ _ _ _ _ _ _ (c .before .before .grades-of .ensures) (omega arith) (c .before .loop .inv)
 
 pub farthest-spec : {M : Type 1} → statement M
 farthest-spec =
@@ -197,10 +206,10 @@ farthest-spec =
     (λ c κs. search needs)
     (λ c κs. search needs)
     difference-requires
-    (λ c. omega arith)
-    (λ c. let f = at (c .before .before .before .before .before .before .before .before .before) in omega arith)
     (λ c. search needs)
     loop-again
     (λ c. search needs)
     loop-again-2
+    (λ c. omega (arith, c .before .loop .inv .grade, c .before .before .grades-of .ensures))
+    (λ c. omega (arith, few-in (c .before .before .before .before .pre .0), c .before .before .grades-of .ensures))
     returns)

@@ -2,6 +2,7 @@
 use borrow.Author.Needs.{needs}
 use Rattle.desk.specs.Desk.{freshDesk, SoundDesk}
 use Rattle.table.proofs.Words.{few-grades}
+use Rattle.pooled_place.proofs.Words.{sound-place}
 use Rattle.desk.proofs.Soundness.{fresh-sound, change-sound}
 use Rattle.report.proofs.report.Statement.{statement}
 use Rattle.report.proofs.report.Tie as tie
@@ -18,7 +19,7 @@ report-spec =
     (λ c. search needs)
     (λ c. search needs)
     (λ c κs. sound (c .before .before .before .before))
-    (λ c κs. few-grades (sound (c .before .before .before .before .before .before) .first))
+    (λ c κs. few-grades (sound-place (sound (c .before .before .before .before .before .before) .first)))
     (λ c κs. sound (c .before .before .before .before .before .before .before))
     (λ c. search needs)
     (λ c κs. search needs)

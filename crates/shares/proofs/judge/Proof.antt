@@ -23,18 +23,18 @@ module _ (c : tie.After-weights-of2) where
   two : Holds (c .before .weights-of .result) (args .args .totals2) (tableIn (now (args .args .second)))
   two = record { weights = c .before .weights-of .ensures; totals = args .pre .1 .1 .1; shareable = args .pre .1 .0 .1 }
 
-module _ (c : tie.After-blocks-of2) where
+module _ (c : tie.After-listed-blocks2) where
   abbrev weighed : tie.After-weights-of2
   weighed = c .before .before .before .before
 
-  held : let f = c .before .before .blocks-of in
-      let g = c .blocks-of2 in
+  held : let f = c .before .before .listed-blocks in
+      let g = c .listed-blocks2 in
       Judges (weighed .before .weights-of .result) (weighed .weights-of2 .result)
       (tableIn (now (args weighed .args .first))) (tableIn (now (args weighed .args .second)))
       (take (120 - f .result) (drop (f .result) (f .last .1 .0))) (take (120 - g .result) (drop (g .result) (g .last .1 .0)))
   held =
-      let f = c .before .before .blocks-of in
-      let g = c .blocks-of2 in
+      let f = c .before .before .listed-blocks in
+      let g = c .listed-blocks2 in
       judges (one weighed) (two weighed)
       (words-part (f .last .1 .0) (f .result) 120 _ (f .ensures .0 .0) (f .ensures .1))
       (words-part (g .last .1 .0) (g .result) 120 _ (g .ensures .0 .0) (g .ensures .1))

@@ -1,12 +1,17 @@
 -- `quotient` meets its contract: an f64 holds both operands, so that only the quotient is rounded, and it is below 2^18.
 use Prim.Native.Nat.{ℕ, _+_, _*_, _^_, _≤_}
-use mathlib.Core.Path.{_≡_, refl}
+use mathlib.Core.Path.{_≡_, refl, sym, subst}
+use mathlib.Core.Bool.{false}
 use native.Mathlib.Omega.{arith}
 use borrow.Author.Needs.{needs}
 use lib.Dec.{T, le→leb}
-use lib.IntN.{pos}
-use lib.Ieee.{binary64, inFloat}
+use lib.IntN.{ℤ, pos}
+use lib.Ieee.{binary64, inFloat, ofInt}
+use lib.Ieee.Exact.{HasValue}
+use mir.Syntax.{w64}
+use mir.Val.{toZ}
 use Rattle.table.proofs.Arithmetic.{counts-le}
+use Rattle.table.proofs.Signed.{count-back}
 use Rattle.spread.proofs.Quarter.{product-le}
 use Rattle.spread.proofs.Operations.{whole-value, div-near}
 use Rattle.spread.proofs.quotient.Statement.{statement}
@@ -22,8 +27,14 @@ product-small c = counts-le {a = c .before .args .defaults} {b = c .survivors .r
 mul-result : tie.Need-mul-result
 mul-result c = omega (arith, product-small (c .before))
 
+-- The signed number that the cast reads is the product.
+product-back : (c : tie.After-survivors) → let n = c .before .args .defaults * c .survivors .result .0 in toZ w64 n ≡ pos n
+product-back c = count-back (c .before .args .defaults * c .survivors .result .0) (omega (arith, product-small c))
+
 int-to-float-result : tie.Need-int-to-float-result
-int-to-float-result c = in-float _ (omega (arith, product-small (c .before .before)))
+int-to-float-result c =
+    let w = c .before .before in
+    subst (λ (z : ℤ). T (inFloat binary64 z)) (sym (product-back w)) (in-float _ (omega (arith, product-small w)))
 
 returns : tie.Need-returns
 returns c =
@@ -32,7 +43,7 @@ returns c =
     let s = w .survivors .result .0 in
     let all : d + s ≡ w .before .args .obligors .0 = omega (arith, w .survivors .ensures) in
     let product = product-le d s 1_000_000 (omega arith) in
-    let above = whole-value binary64 (d * s) (omega arith) in
+    let above = subst (λ (z : ℤ). HasValue (ofInt binary64 z) false (d * s) 1) (sym (product-back w)) (whole-value binary64 (d * s) (omega arith)) in
     let below = whole-value binary64 (d + s) (omega arith) in
     rw (← w .survivors .ensures, ← all) (div-near binary64 18 36 refl _ _ (d * s) (d + s) above below (omega arith) (omega arith))
 
@@ -43,6 +54,7 @@ quotient-spec =
     (λ c κs. search needs)
     (λ c. search needs)
     mul-result
+    (λ c. omega (arith, product-small (c .before)))
     int-to-float-result
     (λ c. search needs)
     returns)

@@ -8,7 +8,8 @@ use Rattle.calls.specs.Calls.{clear}
 use Rattle.calls.proofs.Answered.{left-alone}
 use Rattle.desk.specs.Desk.{placeAt}
 use Rattle.desk.proofs.Number.{there, missing}
-use Rattle.desk.proofs.Changed.{length-marked, change-number, change-desk}
+use Rattle.desk.proofs.Changed.{length-marked, clear-marked, change-number, change-desk}
+use Rattle.pooled_place.specs.PooledPlace.{empty}
 use Rattle.desk.proofs.Desk.clear.Statement.{statement}
 use Rattle.desk.proofs.Desk.clear.Tie as tie
 
@@ -23,9 +24,10 @@ returns-2 c =
     let l = f .before .before .before in
     let a = l .before .before in
     let words = l .before .mark .ensures in
+    let same = clear-marked (placeAt (a .args .self) (a .args .place)) words in
     let here = there (a .args .place) _ (l .is-place .ensures) (f .before .before .if1 .left) in (
-      change-desk _ (a .args .place) clear here words (f .clear .ensures .0) (f .clear .ensures .1) (c .stored2 .ensures .0),
-      rw (← change-number _ (a .args .place) clear here words (f .clear .ensures .0)) (c .stored2 .ensures .1),
+      change-desk _ (a .args .place) clear here (l .before .mark .result) same (λ _. empty) (f .clear .ensures .0) (f .clear .ensures .1) (c .stored2 .ensures .0),
+      c .stored2 .ensures .1 ∙ ap (λ (m : ℕ). answer m tt) (change-number _ (a .args .place) clear here (l .before .mark .result) same (f .clear .ensures .0)),
     )
 
 pub clear-spec : {M : Type 1} → statement M

@@ -8,7 +8,7 @@ use Rattle.calls.specs.Answers.{answer}
 use Rattle.calls.specs.Calls.{pool}
 use Rattle.calls.proofs.Answered.{refuses, left-alone}
 use Rattle.desk.proofs.Number.{there, missing}
-use Rattle.desk.proofs.Asked.{words-place, fill-number, fill-buffer}
+use Rattle.desk.proofs.Asked.{words-pooled, fill-number, fill-buffer}
 use Rattle.desk.proofs.Desk.pool.Statement.{statement}
 use Rattle.desk.proofs.Desk.pool.Tie as tie
 
@@ -21,7 +21,7 @@ pool-requires : tie.Need-pool-requires
 pool-requires c κs =
     let w = c .before .before in
     let a = w .before .before .before .before in
-    words-place _ (a .args .place) (a .pre) (w .words .ensures)
+    words-pooled _ (a .args .place) (a .pre) (w .pooled-words .ensures)
 
 returns-2 : tie.Need-returns-2
 returns-2 c =
@@ -30,9 +30,9 @@ returns-2 c =
     let l = w .before in
     let a = l .before .before .before in
     let here = there (a .args .place) _ (l .before .is-place .ensures) (l .if1 .left) in
-    let n = fill-number _ (a .args .place) (a .pre) (w .words .ensures) here pool (now (a .args .out)) (p .pool .ensures .0) in (
+    let n = fill-number _ (a .args .place) (a .pre) (w .pooled-words .ensures) here pool (now (a .args .out)) (p .pool .ensures .0) in (
       refl,
-      (fill-buffer _ (a .args .place) (a .pre) (w .words .ensures) here pool (now (a .args .out)) (p .pool .ensures .0) (p .pool .ensures .1), c .of .ensures ∙ ap (λ (m : ℕ). answer m tt) n),
+      (fill-buffer _ (a .args .place) (a .pre) (w .pooled-words .ensures) here pool (now (a .args .out)) (p .pool .ensures .0) (p .pool .ensures .1), c .of .ensures ∙ ap (λ (m : ℕ). answer m tt) n),
     )
 
 pub pool-spec : {M : Type 1} → statement M

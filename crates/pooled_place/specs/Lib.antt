@@ -1,0 +1,2 @@
+pub mod PooledPlace
+pub mod Words
