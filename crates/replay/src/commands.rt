@@ -26,7 +26,7 @@ const LENT_BYTES: usize = 8_192;
 
 const BYTE: u8 = 0xaa;
 
-// Load and clear hand back the desk beside their answer.
+// A call that changes the desk hands it back beside its answer.
 fn stored(call: &[u8], s: Stored) -> Ran
     requires { ⌜ SoundDesk (s .desk) ⌝ }
     ensures { λ r. ⌜ SoundDesk (r .desk) ⌝ }
@@ -67,13 +67,6 @@ fn load(desk: Desk, call: Call) -> Ran
     }
     let mut book = io::large_buffer();
     load_from(desk, call.first, call.second, &mut book[..length])
-}
-
-fn clear(desk: Desk, place: u32) -> Ran
-    requires { ⌜ SoundDesk desk ⌝ }
-    ensures { λ r. ⌜ SoundDesk (r .desk) ⌝ }
-{
-    stored(b"clear", desk.clear(place))
 }
 
 fn pool_into(desk: Desk, place: u32, lent: &mut [u32])
@@ -166,9 +159,21 @@ fn answered(desk: Desk, call: Call) -> Ran
     ensures { λ r. ⌜ SoundDesk (r .desk) ⌝ }
 {
     let operation = call.operation;
+    let place = call.first;
+    let grade = call.second;
     match operation {
         script::LOAD => load(desk, call),
-        script::CLEAR => clear(desk, call.first),
+        script::CLEAR => stored(b"clear", desk.clear(place)),
+        script::SURVIVOR_ENTERS => stored(b"survivor_enters", desk.survivor_enters(place, grade)),
+        script::SURVIVOR_LEAVES => stored(b"survivor_leaves", desk.survivor_leaves(place, grade)),
+        script::SURVIVOR_DEFAULTS => stored(
+            b"survivor_defaults",
+            desk.survivor_defaults(place, grade),
+        ),
+        script::DEFAULTED_REMOVED => stored(
+            b"defaulted_removed",
+            desk.defaulted_removed(place, grade),
+        ),
         _ => Ran {
             desk,
             goes_on: question(desk, call),

@@ -11,6 +11,10 @@
 //     9 write     length of the lent buffer in bytes (at most 8,192), each first set to 0xaa
 //    10 compare_shares
 //    11 shortlist  length of the lent buffer in numbers (at most 512), each first set to 0xaaaaaaaa, length of the book in bytes (at most 65,535)
+//    12 survivor_enters    place, grade
+//    13 survivor_leaves    place, grade
+//    14 survivor_defaults  place, grade
+//    15 defaulted_removed  place, grade
 // Pool, shortlist and write print the whole buffer after the call, write in hexadecimal, and spread the 64 bits of each float as a number.
 // An unknown operation, an operand cut short, or a length above its limit ends the script with the line `end`.
 ghost use Rattle.desk.specs.Desk.{SoundDesk};

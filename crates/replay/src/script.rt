@@ -33,6 +33,14 @@ pub const COMPARE_SHARES: u32 = 10;
 
 pub const SHORTLIST: u32 = 11;
 
+pub const SURVIVOR_ENTERS: u32 = 12;
+
+pub const SURVIVOR_LEAVES: u32 = 13;
+
+pub const SURVIVOR_DEFAULTS: u32 = 14;
+
+pub const DEFAULTED_REMOVED: u32 = 15;
+
 pub enum Command {
     Call(Call),
     // The input has ended before it.
@@ -60,7 +68,12 @@ fn operands_size(operation: u32) -> usize
 {
     match operation {
         LOAD | CHEAPEST => OPERANDS,
-        POOL | SHORTLIST => 8,
+        POOL
+        | SHORTLIST
+        | SURVIVOR_ENTERS
+        | SURVIVOR_LEAVES
+        | SURVIVOR_DEFAULTS
+        | DEFAULTED_REMOVED => 8,
         CLEAR | MEASURES | BRIER | SPREAD | WRITE => 4,
         _ => 0,
     }
