@@ -7,6 +7,7 @@ import operator
 from . import library
 from .answers import Cutoff, Kind, Measures, PooledGrade, Price, Spread, Verdict, WrittenFraction
 from .book import as_bytes, encode, load_refusals, located
+from .events import event_refusal
 from .refusals import Refused
 from .table import Table
 
@@ -85,6 +86,57 @@ class Desk:
     def clear(self, place: int) -> None:
         """Empties a loaded place. Refuses 1, 22."""
         accept(self._library.desk_clear(byref(self._image), number(place, 'a place')))
+
+    # Events. The table is then the one that they have made of it, for every call; its announced rates and its other grades stay. Of 36 to 38
+    # `where` of what is raised says what the grade or the table has.
+
+    def survivor_enters(self, place: int, grade: int) -> None:
+        """A survivor enters a grade, counted from 1, which may be empty: an obligor more. Refuses 1, 22, 36, 38.
+
+        >>> desk = Desk()
+        >>> desk.load(1, Table(obligors=[2, 2], defaults=[0, 1], announced=[0, 500_000]))
+        >>> desk.survivor_enters(1, 2)
+        >>> print(desk.table(1), desk.pool(1)[1], sep='; ')
+        Table: 2 grades, 5 obligors = 4 survivors + 1 defaults; 0.333333 (1/3), band 12
+        """
+        self._booked('survivor_enters', place, grade)
+
+    def survivor_leaves(self, place: int, grade: int) -> None:
+        """A survivor leaves a grade: an obligor less. Refuses 1, 22, 36, 37: the last obligor of a table stays.
+
+        >>> desk = Desk()
+        >>> desk.load(1, Table(obligors=[2, 2], defaults=[0, 1], announced=[0, 500_000]))
+        >>> desk.survivor_leaves(1, 2)
+        >>> print(desk.table(1), desk.pool(1)[1], sep='; ')
+        Table: 2 grades, 3 obligors = 2 survivors + 1 defaults; 1.000000 (1/1), band 14
+        >>> desk.survivor_leaves(1, 2)
+        Traceback (most recent call last):
+        desk.refusals.Refused: refused 37: grade without such a firm, or a leaving or removal of the table's last obligor; grade 2 has no \
+survivor: 1 obligors, 1 defaults
+        """
+        self._booked('survivor_leaves', place, grade)
+
+    def survivor_defaults(self, place: int, grade: int) -> None:
+        """A survivor of a grade defaults, and stays there among its obligors: a default more. Refuses 1, 22, 36, 37.
+
+        >>> desk = Desk()
+        >>> desk.load(1, Table(obligors=[2, 2], defaults=[0, 1], announced=[0, 500_000]))
+        >>> desk.survivor_defaults(1, 1)
+        >>> print(desk.table(1), desk.pool(1)[0], sep='; ')
+        Table: 2 grades, 4 obligors = 2 survivors + 2 defaults; 0.500000 (2/4), band 13
+        """
+        self._booked('survivor_defaults', place, grade)
+
+    def defaulted_removed(self, place: int, grade: int) -> None:
+        """A defaulted firm is removed from a grade: an obligor and a default less. Refuses 1, 22, 36, 37: the last obligor of a table stays.
+
+        >>> desk = Desk()
+        >>> desk.load(1, Table(obligors=[2, 2], defaults=[0, 1], announced=[0, 500_000]))
+        >>> desk.defaulted_removed(1, 2)
+        >>> print(desk.table(1), desk.pool(1)[1], sep='; ')
+        Table: 2 grades, 3 obligors = 3 survivors + 0 defaults; 0.000000 (0/3), band 1
+        """
+        self._booked('defaulted_removed', place, grade)
 
     # Questions
 
@@ -188,6 +240,14 @@ class Desk:
         if place not in (1, 2):
             raise Refused(1)
         return self._image.first if place == 1 else self._image.second
+
+    def _booked(self, event: str, place: int, grade: int) -> None:
+        """An event at a grade, which the library books or refuses."""
+        book = getattr(self._library, f'desk_{event}')
+        refusal = book(byref(self._image), number(place, 'a place'), number(grade, 'a grade'))
+        if refusal >= 36:
+            raise event_refusal(refusal, event, self.table(place), index(grade, 'a grade'))
+        accept(refusal)
 
     def _verdict(self, function: str) -> Verdict:
         """What one of the two comparisons answers."""

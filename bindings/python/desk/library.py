@@ -15,7 +15,7 @@ NAME = 'libdesk.so'
 
 class DeskPlace(Structure):
     _fields_ = [('obligors', c_uint32 * MAX_GRADES), ('defaults', c_uint32 * MAX_GRADES), ('announced', c_uint32 * MAX_GRADES),
-                ('grades', c_uint32), ('loaded', c_uint32)]
+                ('grades', c_uint32), ('loaded', c_uint32), ('pooled', c_uint32 * POOL_NUMBERS)]
 
 
 class DeskImage(Structure):
@@ -55,6 +55,10 @@ FUNCTIONS = {
     'desk_empty': [POINTER(DeskImage)],
     'desk_load': ON_A_PLACE + [POINTER(c_ubyte), c_size_t, c_uint32],
     'desk_clear': ON_A_PLACE,
+    'desk_survivor_enters': ON_A_PLACE + [c_uint32],
+    'desk_survivor_leaves': ON_A_PLACE + [c_uint32],
+    'desk_survivor_defaults': ON_A_PLACE + [c_uint32],
+    'desk_defaulted_removed': ON_A_PLACE + [c_uint32],
     'desk_pool': ON_A_PLACE + [POINTER(c_uint32), c_size_t],
     'desk_cheapest': ON_A_PLACE + [c_uint32, c_uint32, POINTER(DeskCutoff)],
     'desk_compare': [POINTER(DeskImage), POINTER(DeskVerdict)],

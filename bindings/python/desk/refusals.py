@@ -25,6 +25,9 @@ MEANINGS = {
     33: 'bytes after the last table',
     34: 'announced rate below that of the row before',
     35: 'N above 100,000 (compare on shares; N: obligors of the table)',
+    36: 'grade outside the table',
+    37: "grade without such a firm, or a leaving or removal of the table's last obligor",
+    38: 'entry beyond 1,000,000 (obligors of the table)',
 }
 
 
