@@ -1,4 +1,4 @@
-"""Document 01's definitions, computed plainly for the tests that hold answers to them; of document 02, R-1, R-4, R-5 and R-6.
+"""Document 01's definitions, computed plainly for the tests that hold answers to them; of document 02, R-1, R-4, R-5, R-6 and R-8.
 
 A grade is its obligors, its defaults and its announced rate in ppm. Everything is exact: whole numbers and fractions.
 """
@@ -37,6 +37,31 @@ def row_faults(counts: str, rows: Grades) -> list[tuple[int, int | None]]:
     obligors = totals(grades_of(counts, rows))[0]
     empty = all(row[:2] == (0, 0) for row in rows)
     return found + [(9, None)] * empty + [(11, None)] * (obligors > 1_000_000)
+
+
+# Firms that come and go
+
+# R-8: "a survivor enters, a survivor leaves, a survivor defaults, a defaulted firm is removed": what each adds to n and d of its grade.
+EVENTS = {'survivor_enters': (1, 0), 'survivor_leaves': (-1, 0), 'survivor_defaults': (0, 1), 'defaulted_removed': (-1, -1)}
+
+
+def event_fault(event: str, grades: Grades, grade: int) -> int | None:
+    """R-8: "36 for a grade outside the table, 37 for a grade without such a firm or a leaving or removal of the table's last obligor, and 38
+    for an entry beyond 1,000,000". Grades are counted from 1."""
+    if not 1 <= grade <= len(grades):
+        return 36
+    (n, d, _), obligors = grades[grade - 1], totals(grades)[0]
+    if event == 'survivor_enters':
+        return 38 if obligors == 1_000_000 else None
+    firms = d if event == 'defaulted_removed' else n - d
+    goes = event != 'survivor_defaults'
+    return 37 if firms == 0 or goes and obligors == 1 else None
+
+
+def after_event(event: str, grades: Grades, grade: int) -> list[tuple[int, int, int]]:
+    """The grades after an event that is accepted. R-8: "Announced rates, other grades' counts .. are untouched"."""
+    (obligors, defaults), (n, d, announced) = EVENTS[event], grades[grade - 1]
+    return [*grades[:grade - 1], (n + obligors, d + defaults, announced), *grades[grade:]]
 
 
 # Cutoffs and prices

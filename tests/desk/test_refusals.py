@@ -5,7 +5,7 @@ and all that was lent are as they were; that the watch over them sees what it ha
 """
 from __future__ import annotations
 
-from ctypes import addressof, c_ubyte, c_uint32, memset
+from ctypes import addressof, c_ubyte, c_uint32, memset, sizeof
 from typing import Callable
 import struct
 import sys
@@ -15,18 +15,21 @@ sys.dont_write_bytecode = True
 from common import Scale, loaded  # noqa: E402
 from watched import Guarded, Violated, WatchedDesk, WatchedLibrary  # noqa: E402
 from books import encoded  # noqa: E402
-from desk import Refused, Table  # noqa: E402
+from definitions import EVENTS  # noqa: E402
+from desk import Refused, Table, library  # noqa: E402
 
 MIXED: Scale = [(10, 2), (10, 1), (20, 4)]
 NO_DEFAULTS: Scale = [(3, 0)]
 NO_SURVIVORS: Scale = [(3, 3)]
-# Numbers that are no place, rater or price, and would be one if they were cut to 4 bytes.
+# Numbers that are no place, rater, grade or price, and would be one if they were cut to 4 bytes.
 NO_PLACES = (0, 3, 257, 2 ** 32 - 1, 2 ** 32 + 1, 2 ** 32 + 2, 2 ** 64 + 1, 10 ** 5000, -1, 1 - 2 ** 32, 2 - 2 ** 64)
 NO_RATERS = (0, 3, 257, 2 ** 32 - 1, 2 ** 32 + 1, 2 ** 64 + 2, 10 ** 5000, -1, 1 - 2 ** 32)
+NO_GRADES = (0, 4, 40, 41, 257, 2 ** 32 - 1, 2 ** 32, 2 ** 32 + 1, 2 ** 64 + 2, 10 ** 5000, -1, 1 - 2 ** 32, 2 - 2 ** 64)  # of three
 NO_PRICES = (1_000_001, 2 ** 32 - 1, 2 ** 32, 2 ** 32 + 5, 2 ** 64 + 1, 10 ** 5000)
 # Two raters of one and two grades. Bytes 0 raters, 2 length, 4 and 6 offsets, 8 table 1 (rows from 12), 24 table 2 (rows from 28 and 40).
 PAIR = encoded([(0, [(5, 1, 7)]), (1, [(5, 1, 7), (6, 0, 8)])])
 LISTED = encoded([(0, [(12, 1, 7)]), (1, [(5, 1, 7), (6, 0, 8)])])  # both of which have a shortlist
+PLACE, IMAGE = sizeof(library.DeskPlace), sizeof(library.DeskImage)  # bytes
 
 
 def put(book: bytes, *changes: tuple[int, str, int]) -> bytes:
@@ -79,6 +82,9 @@ class Places(Case):
             self.refused(number, desk, lambda: desk.cheapest(place, *prices))
         for length in (0, 1, 120):
             self.pool_refused(number, desk, place, length)
+        for event in EVENTS:
+            for grade in (1, 2, 3, *NO_GRADES):
+                self.assertIsNone(self.refused(number, desk, lambda: getattr(desk, event)(place, grade)).where)
 
     def test_no_such_place(self) -> None:
         for desk in (WatchedDesk(), loaded(WatchedDesk(), MIXED, NO_DEFAULTS)):
@@ -215,6 +221,49 @@ class Loads(Case):
         self.assertEqual([grade.obligors for grade in desk.table(1).grades + desk.table(2).grades], [5, 6, 6])
 
 
+class Events(Case):
+    """36 to 38 of the four events, in either place, with what is told of the grade or the table."""
+
+    def see(self, number: int, event: str, scale: Scale, grade: int, where: str) -> None:
+        for place, scales in ((1, (scale, None)), (1, (scale, MIXED)), (2, (NO_SURVIVORS, scale)), (2, (None, scale))):
+            desk = loaded(WatchedDesk(), *scales)
+            self.assertEqual(self.refused(number, desk, lambda: getattr(desk, event)(place, grade)).where, where)
+
+    def test_36_no_such_grade(self) -> None:
+        """Before 37 and 38: of a table without any such firm, of one with a single obligor, of a full one."""
+        full, last = [(1_000_000, 0), (0, 0), (0, 0)], [(0, 0), (1, 1), (0, 0)]
+        for event in EVENTS:
+            for grade in NO_GRADES:
+                shown = 'over 10^30' if grade > 10 ** 30 else grade
+                for scale in (MIXED, full, last):
+                    self.see(36, event, scale, grade, f'grade {shown}; this table has grades 1 to 3')
+            for grade in (0, 2, 3, 40):
+                self.see(36, event, NO_DEFAULTS, grade, f'grade {grade}; this table has grades 1 to 1')
+            self.see(36, event, [(1, 0)] * 40, 41, 'grade 41; this table has grades 1 to 40')
+
+    def test_37_no_such_firm(self) -> None:
+        """Of the grade alone: the others have such firms, and there may be 1,000,000."""
+        for event in ('survivor_leaves', 'survivor_defaults'):
+            for scale, grade, has in (([(10, 2), (4, 4), (20, 4)], 2, '4 obligors, 4 defaults'), ([(0, 0), (4, 2)], 1, '0 obligors, 0 defaults'),
+                                      ([(4, 0), (1, 1)], 2, '1 obligors, 1 defaults'), ([(1, 1)], 1, '1 obligors, 1 defaults'),
+                                      ([(999_999, 0), (1, 1)], 2, '1 obligors, 1 defaults')):
+                self.see(37, event, scale, grade, f'grade {grade} has no survivor: {has}')
+        for scale, grade, has in (([(10, 2), (4, 0), (20, 4)], 2, '4 obligors, 0 defaults'), ([(4, 2), (0, 0)], 2, '0 obligors, 0 defaults'),
+                                  ([(1, 0)], 1, '1 obligors, 0 defaults'), ([(1, 0), (999_999, 5)], 1, '1 obligors, 0 defaults')):
+            self.see(37, 'defaulted_removed', scale, grade, f'grade {grade} has no defaulted firm: {has}')
+
+    def test_37_the_last_obligor(self) -> None:
+        for event, firm in (('survivor_leaves', (1, 0)), ('defaulted_removed', (1, 1))):
+            for scale, grade in (([firm], 1), ([(0, 0), firm, (0, 0)], 2), ([(0, 0)] * 39 + [firm], 40)):
+                self.see(37, event, scale, grade, f'grade {grade} has the one obligor of this table')
+
+    def test_38_a_full_table(self) -> None:
+        """By the table and not by the grade, which may be empty."""
+        for scale in ([(1_000_000, 7)], [(999_999, 0), (1, 1), (0, 0)], [(0, 0), (500_000, 500_000), (500_000, 0)], [(25_000, 1)] * 40):
+            for grade in range(1, len(scale) + 1):
+                self.see(38, 'survivor_enters', scale, grade, 'this table has 1000000 obligors')
+
+
 class Questions(Case):
     def test_12_prices(self) -> None:
         desk = loaded(WatchedDesk(), MIXED, NO_DEFAULTS)
@@ -304,15 +353,16 @@ class Watch(unittest.TestCase):
             return wrong
         calls = {'pool': (1,), 'write': (), 'compare': (), 'compare_shares': (), 'brier': (2,), 'measures': (2,), 'spread': (1,),
                  'cheapest': (1, 1, 1)}
-        for name, argument, at in (('pool', 2, 480), ('pool', 2, -1), ('pool', 0, 976), ('pool', 0, -1), ('write', 1, 976), ('write', 3, 8),
+        calls.update({event: (1, 1) for event in EVENTS})
+        for name, argument, at in (('pool', 2, 480), ('pool', 2, -1), ('pool', 0, IMAGE), ('pool', 0, -1), ('write', 1, 976), ('write', 3, 8),
                                    ('write', 3, -8), ('compare', 1, 20), ('compare_shares', 1, 20), ('brier', 2, 16), ('measures', 2, 88),
-                                   ('spread', 2, -1), ('cheapest', 4, 16)):
+                                   ('spread', 2, -1), ('cheapest', 4, 16), *((event, 0, at) for event in EVENTS for at in (IMAGE, -1))):
             self.see(f'desk_{name}', beside(argument, at), lambda desk: getattr(desk, name)(*calls[name]))
         for argument, at in ((0, len(LISTED)), (0, -1), (0, 0), (2, 64), (2, -1), (4, 8), (4, -8)):  # also within the book, which is read
             self.see('desk_shortlist', beside(argument, at), lambda desk: desk.shortlist_into(LISTED, (c_uint32 * 16)()))
 
     def test_a_question_that_changes_the_desk(self) -> None:
-        for at in (0, 487, 488, 975):
+        for at in (0, PLACE - 1, PLACE, IMAGE - 1):
             self.see('desk_spread', lambda function, image, *rest: smudge(image, at) or function(image, *rest), lambda desk: desk.spread(1))
 
     def test_a_change_in_the_other_place(self) -> None:
@@ -320,7 +370,11 @@ class Watch(unittest.TestCase):
             desk.clear(1)
             desk.load(1, PAIR)
         for name in ('desk_clear', 'desk_load'):
-            self.see(name, lambda function, image, *rest: smudge(image, 488) or function(image, *rest), call)
+            self.see(name, lambda function, image, *rest: smudge(image, PLACE) or function(image, *rest), call)
+        for event in EVENTS:
+            for place, at in ((1, PLACE), (1, IMAGE - 1), (2, 0), (2, PLACE - 1)):
+                self.see(f'desk_{event}', lambda function, image, *rest: function(image, *rest) or smudge(image, at) or 0,
+                         lambda desk: getattr(desk, event)(place, 1))
 
     def test_writes_at_a_refusal_or_into_a_book(self) -> None:
         def refused(call: Callable[[WatchedDesk], object]) -> Callable[[WatchedDesk], None]:
@@ -334,7 +388,8 @@ class Watch(unittest.TestCase):
         def wrong(argument: int) -> Callable[..., int]:
             return lambda function, *arguments: smudge(arguments[argument], 3) or function(*arguments)
         for name, argument, call in (('desk_load', 2, lambda desk: desk.load(1, PAIR)), ('desk_load', 0, lambda desk: desk.load(1, PAIR)),
-                                     ('desk_clear', 0, lambda desk: desk.clear(3)), ('desk_pool', 2, lambda desk: desk.pool(3)),
+                                     ('desk_clear', 0, lambda desk: desk.clear(3)),
+                                     ('desk_survivor_enters', 0, lambda desk: desk.survivor_enters(1, 4)), ('desk_pool', 2, lambda desk: desk.pool(3)),
                                      ('desk_cheapest', 4, lambda desk: desk.cheapest(3, 1, 1)),
                                      ('desk_measures', 2, lambda desk: desk.measures(3)),
                                      ('desk_write', 1, lambda desk: desk.write_into((c_ubyte * 9)())),

@@ -1,7 +1,7 @@
 """A desk that is watched: its image stands between guards, and whatever else a call lends is moved between guards for the call.
 
-After each call the guards are whole; a refusal has changed nothing; only load and clear have changed the desk, and only in their place;
-a book that is read is as it was. A shortlist, to which no desk is lent, is watched through one whose places it has to leave alone. What is
+After each call the guards are whole; a refusal has changed nothing; only load, clear and events have changed the desk, and only in their
+place; a book that is read is as it was. A shortlist, to which no desk is lent, is watched through one whose places it has to leave alone. What is
 found otherwise raises Violated.
 """
 from __future__ import annotations
@@ -14,10 +14,11 @@ import unittest.mock
 import common  # noqa: F401  (where the module stands)
 from desk import Desk, library, shortlist_into
 from desk.desk import accept
+from desk.events import EVENTS
 
 GUARD = bytes(range(129, 193)) * 16  # nothing that a call is likely to write, and more than any call writes
 BEFORE = b'\xaa'  # what an answer holds before it is written
-CHANGES = ('desk_load', 'desk_clear')  # the calls that may change a place
+CHANGES = ('desk_load', 'desk_clear', *(f'desk_{event}' for event in EVENTS))  # the calls that may change a place
 NO_DESK = ('desk_shortlist',)  # the calls that no desk is lent to; the first that they are lent is a book to read
 
 

@@ -134,7 +134,7 @@ survivor: 1 obligors, 1 defaults
         >>> desk.load(1, Table(obligors=[2, 2], defaults=[0, 1], announced=[0, 500_000]))
         >>> desk.defaulted_removed(1, 2)
         >>> print(desk.table(1), desk.pool(1)[1], sep='; ')
-        Table: 2 grades, 3 obligors = 3 survivors + 0 defaults; 0.000000 (0/3), band 1
+        Table: 2 grades, 3 obligors = 3 survivors + 0 defaults; 0.000000 (0/3), band 0
         """
         self._booked('defaulted_removed', place, grade)
 
