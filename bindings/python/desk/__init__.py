@@ -20,7 +20,8 @@
 
 A table says by name whether its first column counts obligors (the defaulted included) or survivors (the defaulted left out). Columns
 may come from any sequence of whole numbers, those of a data frame among them. A desk has two places; each call is accepted, or raises
-Refused with its number and changes nothing. What the calls answer is proved; this module hands it on, and works out price
+Refused with its number and changes nothing. Firms that come and go are booked at a grade of a loaded table by `survivor_enters`,
+`survivor_leaves`, `survivor_defaults` and `defaulted_removed`. What the calls answer is proved; this module hands it on, and works out price
 ranges and costs on shares from it. Scales of books of different sizes are compared by `compare_shares`, with costs by shares of each
 book's own defaults and survivors: its prices are of missing all defaults, and of turning away all survivors, of a book. `shortlist` lists
 the raters of a book for which no other one is better.

@@ -87,11 +87,11 @@ class Desk:
         """Empties a loaded place. Refuses 1, 22."""
         accept(self._library.desk_clear(byref(self._image), number(place, 'a place')))
 
-    # Events. The table is then the one that they have made of it, for every call; its announced rates and its other grades stay. Of 36 to 38
-    # `where` of what is raised says what the grade or the table has.
+    # Events, which book one firm at a grade, counted from 1. For every call the table is then the one with these counts of the grade; its
+    # announced rates and other grades stay. Of 36 to 38 `where` of what is raised says what the grade or the table has.
 
     def survivor_enters(self, place: int, grade: int) -> None:
-        """A survivor enters a grade, counted from 1, which may be empty: an obligor more. Refuses 1, 22, 36, 38.
+        """Books a survivor that enters a grade, counted from 1, which may be empty: one obligor more. Refuses 1, 22, 36, 38.
 
         >>> desk = Desk()
         >>> desk.load(1, Table(obligors=[2, 2], defaults=[0, 1], announced=[0, 500_000]))
@@ -102,7 +102,7 @@ class Desk:
         self._booked('survivor_enters', place, grade)
 
     def survivor_leaves(self, place: int, grade: int) -> None:
-        """A survivor leaves a grade: an obligor less. Refuses 1, 22, 36, 37: the last obligor of a table stays.
+        """Books a survivor that leaves a grade: one obligor fewer. Refuses 1, 22, 36, 37: the last obligor of a table stays.
 
         >>> desk = Desk()
         >>> desk.load(1, Table(obligors=[2, 2], defaults=[0, 1], announced=[0, 500_000]))
@@ -117,7 +117,7 @@ survivor: 1 obligors, 1 defaults
         self._booked('survivor_leaves', place, grade)
 
     def survivor_defaults(self, place: int, grade: int) -> None:
-        """A survivor of a grade defaults, and stays there among its obligors: a default more. Refuses 1, 22, 36, 37.
+        """Books a survivor of a grade that defaults: one default more, and as many obligors. Refuses 1, 22, 36, 37.
 
         >>> desk = Desk()
         >>> desk.load(1, Table(obligors=[2, 2], defaults=[0, 1], announced=[0, 500_000]))
@@ -128,7 +128,8 @@ survivor: 1 obligors, 1 defaults
         self._booked('survivor_defaults', place, grade)
 
     def defaulted_removed(self, place: int, grade: int) -> None:
-        """A defaulted firm is removed from a grade: an obligor and a default less. Refuses 1, 22, 36, 37: the last obligor of a table stays.
+        """Books a defaulted firm that is removed from a grade: one obligor and one default fewer. Refuses 1, 22, 36, 37: the last obligor of a
+        table stays.
 
         >>> desk = Desk()
         >>> desk.load(1, Table(obligors=[2, 2], defaults=[0, 1], announced=[0, 500_000]))
@@ -214,7 +215,7 @@ survivor: 1 obligors, 1 defaults
     # What the places hold
 
     def table(self, place: int) -> Table | None:
-        """The table in a place, by obligors; None where it is empty. Refuses 1."""
+        """The table in a place as it stands, made by its load and the events since, by obligors; None where it is empty. Refuses 1."""
         held = self._place(place)
         if not held.loaded:
             return None
