@@ -77,10 +77,10 @@ class Worked(Case):
 
     def test_a_week(self) -> None:
         desk = desk_with(K)
-        for event, grade, said in (
-                ('survivor_enters', 3, '41 obligors = 34 survivors + 7 defaults'), ('survivor_defaults', 3, '41 obligors = 33 survivors + 8 defaults'),
-                ('survivor_leaves', 1, '40 obligors = 32 survivors + 8 defaults'), ('defaulted_removed', 1, '39 obligors = 32 survivors + 7 defaults')):
+        for event, grade, n, s, d in (('survivor_enters', 3, 41, 34, 7), ('survivor_defaults', 3, 41, 33, 8), ('survivor_leaves', 1, 40, 32, 8),
+                                      ('defaulted_removed', 1, 39, 32, 7)):
             getattr(desk, event)(1, grade)
+            said = f'{n} obligors = {s} survivors + {d} defaults'
             self.assertEqual(repr(desk.table(1)), f'Table: 3 grades, {said}')
             self.assertEqual(repr(desk), f'Desk(place 1: Table: 3 grades, {said}; place 2: empty)')
         self.see(desk, 1, [(8, 1, 100_000), (10, 1, 150_000), (21, 5, 200_000)])

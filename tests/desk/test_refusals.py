@@ -388,14 +388,15 @@ class Watch(unittest.TestCase):
         def wrong(argument: int) -> Callable[..., int]:
             return lambda function, *arguments: smudge(arguments[argument], 3) or function(*arguments)
         for name, argument, call in (('desk_load', 2, lambda desk: desk.load(1, PAIR)), ('desk_load', 0, lambda desk: desk.load(1, PAIR)),
-                                     ('desk_clear', 0, lambda desk: desk.clear(3)),
-                                     ('desk_survivor_enters', 0, lambda desk: desk.survivor_enters(1, 4)), ('desk_pool', 2, lambda desk: desk.pool(3)),
+                                     ('desk_clear', 0, lambda desk: desk.clear(3)), ('desk_pool', 2, lambda desk: desk.pool(3)),
                                      ('desk_cheapest', 4, lambda desk: desk.cheapest(3, 1, 1)),
                                      ('desk_measures', 2, lambda desk: desk.measures(3)),
                                      ('desk_write', 1, lambda desk: desk.write_into((c_ubyte * 9)())),
                                      ('desk_shortlist', 2, lambda desk: desk.shortlist_into(LISTED, (c_uint32 * 1)())),
                                      ('desk_shortlist', 4, lambda desk: desk.shortlist_into(b'', (c_uint32 * 1)()))):
             self.see(name, wrong(argument), refused(call))
+        for event in EVENTS:
+            self.see(f'desk_{event}', wrong(0), refused(lambda desk: getattr(desk, event)(1, 4)))
 
 
 if __name__ == '__main__':

@@ -109,10 +109,11 @@ class Desk:
         >>> desk.survivor_leaves(1, 2)
         >>> print(desk.table(1), desk.pool(1)[1], sep='; ')
         Table: 2 grades, 3 obligors = 2 survivors + 1 defaults; 1.000000 (1/1), band 14
-        >>> desk.survivor_leaves(1, 2)
-        Traceback (most recent call last):
-        desk.refusals.Refused: refused 37: grade without such a firm, or a leaving or removal of the table's last obligor; grade 2 has no \
-survivor: 1 obligors, 1 defaults
+        >>> try:
+        ...     desk.survivor_leaves(1, 2)
+        ... except Refused as refused:
+        ...     print(refused.number, refused.where)
+        37 grade 2 has no survivor: 1 obligors, 1 defaults
         """
         self._booked('survivor_leaves', place, grade)
 
@@ -246,7 +247,7 @@ survivor: 1 obligors, 1 defaults
         """An event at a grade, which the library books or refuses."""
         book = getattr(self._library, f'desk_{event}')
         refusal = book(byref(self._image), number(place, 'a place'), number(grade, 'a grade'))
-        if refusal >= 36:
+        if refusal >= 36:  # the place is loaded: its table can be told of
             raise event_refusal(refusal, event, self.table(place), index(grade, 'a grade'))
         accept(refusal)
 
