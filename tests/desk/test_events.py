@@ -16,8 +16,9 @@ import unittest
 sys.dont_write_bytecode = True
 from common import loaded, table_of  # noqa: E402
 from watched import WatchedDesk  # noqa: E402
-from definitions import EVENTS, Grades, after_event, brier, cheapest, event_fault, measures, pooled, spread  # noqa: E402
-from desk import Desk, PooledGrade, Refused, Table  # noqa: E402
+from definitions import EVENTS, Grades, after_event, brier, cheapest, event_fault, measures, measures_refusal, pooled, spread  # noqa: E402
+from test_ranges import expected as ranges_by_definition, kind_of  # noqa: E402
+from desk import Desk, Kind, PooledGrade, Refused, Table  # noqa: E402
 from desk import events as module_events  # noqa: E402
 
 Rows = List[Tuple[int, int, int]]
@@ -229,6 +230,27 @@ class AtRandom(Case):
         again = Desk()
         again.load(1, desk.write(), 1 + (place == 2 and desk.table(1) is not None))
         self.assertEqual(list(again.table(1).grades), grades)
+
+    def test_two_scales_of_one_portfolio(self) -> None:
+        """Each event in both places, at grades of their own, keeps D and S the same: the verdict is of the tables as they stand."""
+        source, held, found = random.Random(39), {1: [(5, 1, 0), (5, 2, 0), (5, 3, 0)], 2: [(8, 2, 0), (7, 4, 0)]}, []
+        desk = desk_with(held[1], held[2], kind=WatchedDesk)
+        for _ in range(1500):
+            event, at = source.choice(list(EVENTS)), {place: source.randint(1, len(held[place])) for place in held}
+            if any(event_fault(event, held[place], at[place]) for place in held):
+                continue
+            for place, grade in at.items():
+                getattr(desk, event)(place, grade)
+                held[place] = after_event(event, held[place], grade)
+            for compare in (desk.compare, desk.compare_shares):
+                try:
+                    found.append(compare().kind)
+                except Refused as refused:
+                    found.append(refused.number)
+                scales = [[grade[:2] for grade in grades] for grades in held.values()]
+                self.assertEqual(found[-1], measures_refusal(held[1]) or kind_of(ranges_by_definition(*scales)), held)
+        self.assertGreater(len(found), 1000)
+        self.assertLessEqual(set(Kind), set(found))
 
     def test_around_one_obligor(self) -> None:
         source, held = random.Random(37), [(0, 0, 0), (1, 0, 4), (0, 0, 9)]
