@@ -7,7 +7,10 @@
  * 1 to 40 grades, d at most n in each, and announced rates of at most 1,000,000, none below that of the grade before; its totals
  * are N, D and S, N at most 1,000,000. A grade with n 0 is empty, and at least one grade is occupied, with n at least 1. Empty
  * grades add nothing to any count, are numbered as grades all the same, have an announced rate as any other, and have no default
- * rate of their own: who divides by n has to look for 0. A desk has two places, 1 and 2, each empty or holding one rater's table.
+ * rate of their own: who divides by n has to look for 0. A desk has two places, 1 and 2, each empty or holding one rater's table:
+ * the one that its load and the events since have made.
+ * - An event is one firm that comes or goes, or defaults, at a grade of a loaded place: a survivor enters, leaves or defaults, or a
+ *   defaulted firm is removed. Grades are counted from 1, the best one.
  * - Cutoff g, 0 to the number of grades, turns away the g worst grades, empty ones among them. At prices u and v it costs u for
  *   each default that it misses (in a grade that it does not turn away) and v for each survivor that it turns away. On shares
  *   it costs u(D - y)/D + vx/S, where it turns away y defaults and x survivors: u is the price of missing all defaults of the
@@ -34,7 +37,8 @@
  * run on different threads, and calls that keep the desk on one and the same. No pointer is null, not even with length 0 (as
  * that of an empty std::vector may be), unless said below; what they lend does not overlap.
  * A desk may be read and copied. It starts empty, by desk_empty or as zero bytes, which are an empty desk (so `static Desk
- * desk;` is one); from then on only desk_load, desk_load_rows and desk_clear may change it. */
+ * desk;` is one); from then on only desk_load, desk_load_rows, desk_clear and the four events may change it: desk_survivor_enters,
+ * desk_survivor_leaves, desk_survivor_defaults and desk_defaulted_removed. All other calls keep it. */
 #ifndef DESK_H
 #define DESK_H
 
@@ -53,7 +57,7 @@
  * version does not link: the linker reports desk_library_is_version_N as undefined, N being the number below. Then take
  * header and library of one version and compile again. Who loads the library at run time by hand, and so does not link with
  * it, defines DESK_LOADED_BY_HAND before this header and compares desk_version() with DESK_VERSION. */
-#define DESK_VERSION 9
+#define DESK_VERSION 10
 
 #define DESK_GRADES 40                       /* the most grades of a table */
 #define DESK_RATERS 16                       /* the most raters of a book, and room for whatever desk_shortlist writes */
@@ -61,7 +65,7 @@
 #define DESK_MAX_OBLIGORS_ON_SHARES 100000   /* the most of a table that desk_compare_shares takes */
 #define DESK_MAX_PRICE 1000000               /* the highest price that desk_cheapest takes and desk_compare writes */
 #define DESK_MAX_PRICE_ON_SHARES 2500000000U /* the highest that desk_compare_shares writes: above INT32_MAX */
-#define DESK_POOL_NUMBERS 120                /* room for whatever desk_pool writes */
+#define DESK_POOL_NUMBERS 120                /* room for whatever desk_pool writes: three numbers a grade */
 #define DESK_BOOK_BYTES 976                  /* room for whatever desk_write writes */
 #define DESK_TABLE_BYTES 490                 /* the most bytes of a book of one table */
 
@@ -88,12 +92,19 @@
     X(DESK_REFUSED_TABLE_END, 32, "a table runs past the end, in header or rows") \
     X(DESK_REFUSED_LEFTOVER, 33, "bytes after the last table") \
     X(DESK_REFUSED_FALLING_RATE, 34, "announced rate below that of the row before") \
-    X(DESK_REFUSED_LARGE_TABLE, 35, "N above 100,000 (compare on shares; N: obligors of the table)")
+    X(DESK_REFUSED_LARGE_TABLE, 35, "N above 100,000 (compare on shares; N: obligors of the table)") \
+    X(DESK_REFUSED_NO_GRADE, 36, "grade outside the table") \
+    X(DESK_REFUSED_NO_FIRM, 37, "grade without such a firm, or a leaving or removal of the table's last obligor") \
+    X(DESK_REFUSED_FULL_TABLE, 38, "entry beyond 1,000,000 (obligors of the table)")
 #define DESK_CONSTANT(constant, number, meaning) constant = number,
 enum { DESK_REFUSALS(DESK_CONSTANT) };
 
-/* Entries of the arrays from grades on are 0, so that desks with the same tables are the same bytes; loaded is 1 or 0. */
-typedef struct DeskPlace { uint32_t obligors[DESK_GRADES], defaults[DESK_GRADES], announced[DESK_GRADES], grades, loaded; } DeskPlace;
+/* A table as it stands, and beside its counts its pooled list: what desk_pool writes, of grade i the three numbers from index
+ * 3 * (i - 1) on. Load makes the list, each event makes it anew, clear drops it; it may be read here. Entries of the arrays behind
+ * those of the grades are 0, so that desks with the same tables are the same bytes; loaded is 1 or 0. */
+typedef struct DeskPlace {
+    uint32_t obligors[DESK_GRADES], defaults[DESK_GRADES], announced[DESK_GRADES], grades, loaded, pooled[DESK_POOL_NUMBERS];
+} DeskPlace;
 typedef struct Desk { DeskPlace first, second; } Desk;
 typedef struct DeskCutoff { int64_t cutoff, cost; } DeskCutoff;
 typedef struct DeskPrice { uint32_t u, v; } DeskPrice;
@@ -130,7 +141,7 @@ typedef struct DeskWrongCut { uint32_t rater; size_t byte, expected, found; } De
 #else
 #define DESK_ASSERT _Static_assert /* not through <assert.h>, which would set the caller's assert anew */
 #endif
-DESK_ASSERT(sizeof(Desk) == 976 && sizeof(DeskPlace) == 488 && sizeof(size_t) == 8, "as in the library");
+DESK_ASSERT(sizeof(Desk) == 1936 && sizeof(DeskPlace) == 968 && sizeof(size_t) == 8, "as in the library");
 DESK_ASSERT(sizeof(DeskCutoff) == 16 && sizeof(DeskPrice) == 8 && sizeof(DeskVerdict) == 20, "as in the library");
 DESK_ASSERT(sizeof(DeskFraction) == 16 && sizeof(DeskMeasures) == 88 && sizeof(DeskSpread) == 16, "as in the library");
 DESK_ASSERT(sizeof(DeskRow) == 12 && sizeof(DeskBook) == 504, "as in a book");
@@ -157,6 +168,25 @@ uint32_t desk_load(Desk *desk, uint32_t place, const uint8_t *book, size_t lengt
 /* Empties a loaded place.
  * Writes: the place, as zero bytes. Keeps: the other place. Refuses: 1, 22. */
 uint32_t desk_clear(Desk *desk, uint32_t place) DESK_CHECKED;
+
+/* The four events. Of the table the counts of the grade change and nothing else: announced rates, the other grades and their number
+ * are kept. The pooled list is that of the counts as they are then. */
+
+/* Books a survivor that enters a grade, which may be empty: one obligor more.
+ * Writes: the place. Keeps: the other place. Refuses: 1, 22, 36, 38 (N is 1,000,000). */
+uint32_t desk_survivor_enters(Desk *desk, uint32_t place, uint32_t grade) DESK_CHECKED;
+
+/* Books a survivor that leaves a grade: one obligor fewer.
+ * Writes: the place. Keeps: the other place. Refuses: 1, 22, 36, 37 (no survivor in the grade, or N is 1). */
+uint32_t desk_survivor_leaves(Desk *desk, uint32_t place, uint32_t grade) DESK_CHECKED;
+
+/* Books a survivor of a grade that defaults: one default more, and as many obligors.
+ * Writes: the place. Keeps: the other place. Refuses: 1, 22, 36, 37 (no survivor in the grade). */
+uint32_t desk_survivor_defaults(Desk *desk, uint32_t place, uint32_t grade) DESK_CHECKED;
+
+/* Books a defaulted firm that is removed from a grade: one obligor and one default fewer.
+ * Writes: the place. Keeps: the other place. Refuses: 1, 22, 36, 37 (no defaulted firm in the grade, or N is 1). */
+uint32_t desk_defaulted_removed(Desk *desk, uint32_t place, uint32_t grade) DESK_CHECKED;
 
 /* The blocks of a table and their bands. An empty grade is in no block: for it the three numbers of the next better occupied grade
  * are repeated, or those of the best occupied grade if none is better. So no grade is given a block without obligors.

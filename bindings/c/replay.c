@@ -251,9 +251,26 @@ static bool shortlist(Desk *desk)
     return true;
 }
 
+/* One of the four events, by its name. */
+static bool event(Desk *desk, const char *name, uint32_t (*call)(Desk *, uint32_t, uint32_t))
+{
+    uint32_t place, grade;
+    if (!read_number(&place) || !read_number(&grade)) {
+        return false;
+    }
+    say(name, call(desk, place, grade));
+    return true;
+}
+
+static bool survivor_enters(Desk *desk) { return event(desk, "survivor_enters", desk_survivor_enters); }
+static bool survivor_leaves(Desk *desk) { return event(desk, "survivor_leaves", desk_survivor_leaves); }
+static bool survivor_defaults(Desk *desk) { return event(desk, "survivor_defaults", desk_survivor_defaults); }
+static bool defaulted_removed(Desk *desk) { return event(desk, "defaulted_removed", desk_defaulted_removed); }
+
 /* The operations by their numbers, from 1. */
-static bool (*const operations[])(Desk *) = {load,  clear,  pool,       cheapest,       compare,  measures,
-                                             brier, spread, write_book, compare_shares, shortlist};
+static bool (*const operations[])(Desk *) = {load,      clear,           pool,            cheapest,          compare,
+                                             measures,  brier,           spread,          write_book,        compare_shares,
+                                             shortlist, survivor_enters, survivor_leaves, survivor_defaults, defaulted_removed};
 
 static bool run_command(Desk *desk)
 {
