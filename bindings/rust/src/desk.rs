@@ -109,6 +109,97 @@ impl Desk {
         accepted(sys::clear(self, place.into()))
     }
 
+    /// Books a survivor that enters a grade, counted from 1, of the table in a place: one obligor more.
+    /// The grade may be empty. Of this event and of the three others: announced rates, the other
+    /// grades and the other place are kept, and every answer from then on is about the table as it
+    /// stands, [`grades`](Desk::grades) and [`pool`](Desk::pool) among them.
+    ///
+    /// ```
+    /// use desk::{Desk, Place, Refusal, Table};
+    ///
+    /// let mut desk = Desk::empty();
+    /// desk.load_table(Place::First, &Table::by_obligors().grade(5, 2, 400_000).grade(0, 0, 1_000_000))?;
+    /// desk.survivor_enters(Place::First, 2)?;
+    /// let obligors: Vec<u32> = desk.grades(Place::First).map(|grade| grade.obligors).collect();
+    /// assert_eq!(obligors, [5, 1]);
+    /// assert_eq!(desk.survivor_enters(Place::First, 3), Err(Refusal::NoGrade));
+    /// # Ok::<(), desk::Refusal>(())
+    /// ```
+    ///
+    /// # Errors
+    ///
+    /// 22 ([`Refusal::Empty`]), 36 ([`Refusal::NoGrade`]), 38 ([`Refusal::FullTable`]) where the table
+    /// has [`MAX_OBLIGORS`](crate::MAX_OBLIGORS), in whatever grades they are.
+    pub fn survivor_enters(&mut self, place: Place, grade: u32) -> Result<(), Refusal> {
+        accepted(sys::survivor_enters(self, place.into(), grade))
+    }
+
+    /// Books a survivor that leaves a grade, counted from 1, of the table in a place: one obligor fewer.
+    ///
+    /// ```
+    /// use desk::{Desk, Place, Refusal, Table};
+    ///
+    /// let mut desk = Desk::empty();
+    /// desk.load_table(Place::First, &Table::by_obligors().grade(1, 0, 400_000).grade(1, 0, 1_000_000))?;
+    /// desk.survivor_leaves(Place::First, 1)?;
+    /// assert_eq!(desk.survivor_leaves(Place::First, 1), Err(Refusal::NoFirm), "nobody is left there");
+    /// assert_eq!(desk.survivor_leaves(Place::First, 2), Err(Refusal::NoFirm), "the last of the table");
+    /// # Ok::<(), desk::Refusal>(())
+    /// ```
+    ///
+    /// # Errors
+    ///
+    /// 22 ([`Refusal::Empty`]), 36 ([`Refusal::NoGrade`]), 37 ([`Refusal::NoFirm`]) where the grade has
+    /// no survivor or the table no other obligor.
+    pub fn survivor_leaves(&mut self, place: Place, grade: u32) -> Result<(), Refusal> {
+        accepted(sys::survivor_leaves(self, place.into(), grade))
+    }
+
+    /// Books a survivor of a grade, counted from 1, of the table in a place that defaults: one default
+    /// more, and as many obligors. The table's last obligor may default.
+    ///
+    /// ```
+    /// use desk::{Desk, Place, Refusal, Table};
+    ///
+    /// let mut desk = Desk::empty();
+    /// desk.load_table(Place::First, &Table::by_obligors().grade(10, 1, 0).grade(20, 4, 0))?;
+    /// desk.survivor_defaults(Place::First, 1)?;
+    /// let blocks = desk.pool(Place::First)?.into_iter().map(|grade| (grade.defaults, grade.obligors));
+    /// assert_eq!(blocks.collect::<Vec<_>>(), [(6, 30), (6, 30)], "rates that are equal are joined");
+    /// # Ok::<(), desk::Refusal>(())
+    /// ```
+    ///
+    /// # Errors
+    ///
+    /// 22 ([`Refusal::Empty`]), 36 ([`Refusal::NoGrade`]), 37 ([`Refusal::NoFirm`]) where the grade has
+    /// no survivor.
+    pub fn survivor_defaults(&mut self, place: Place, grade: u32) -> Result<(), Refusal> {
+        accepted(sys::survivor_defaults(self, place.into(), grade))
+    }
+
+    /// Books a defaulted firm that is removed from a grade, counted from 1, of the table in a place: one
+    /// obligor and one default fewer.
+    ///
+    /// ```
+    /// use desk::{Desk, Grade, Place, Refusal, Table};
+    ///
+    /// let mut desk = Desk::empty();
+    /// desk.load_table(Place::First, &Table::by_obligors().grade(5, 1, 400_000))?;
+    /// desk.defaulted_removed(Place::First, 1)?;
+    /// let grade = Grade { obligors: 4, defaults: 0, announced: 400_000 };
+    /// assert_eq!(desk.grades(Place::First).collect::<Vec<_>>(), [grade]);
+    /// assert_eq!(desk.defaulted_removed(Place::First, 1), Err(Refusal::NoFirm));
+    /// # Ok::<(), desk::Refusal>(())
+    /// ```
+    ///
+    /// # Errors
+    ///
+    /// 22 ([`Refusal::Empty`]), 36 ([`Refusal::NoGrade`]), 37 ([`Refusal::NoFirm`]) where the grade has
+    /// no defaulted firm or the table no other obligor.
+    pub fn defaulted_removed(&mut self, place: Place, grade: u32) -> Result<(), Refusal> {
+        accepted(sys::defaulted_removed(self, place.into(), grade))
+    }
+
     /// For each grade of the table in a place, best first, the block that pooling puts it into. An
     /// empty grade, without obligors, is in none: the next better occupied grade is repeated for it,
     /// or the best occupied one if none is better. Which grades are empty, [`grades`](Desk::grades)
@@ -350,7 +441,7 @@ impl Desk {
         self.rows(place).loaded != 0
     }
 
-    /// The grades of the table in a place, best first; none if it is empty.
+    /// The grades of the table in a place as it stands, best first; none if it is empty.
     ///
     /// ```
     /// use desk::{Desk, Grade, Place, Table};

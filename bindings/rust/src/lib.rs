@@ -8,7 +8,9 @@
 //! cutoff costs no more, whatever a missed default and a survivor turned away may cost;
 //! [`Desk::compare`] decides that, and shows prices where it does not hold. For scales over different
 //! books [`Desk::compare_shares`] decides the same by shares of their defaults and survivors. Of all
-//! raters of a book [`shortlist`] lists those for which no other one is better.
+//! raters of a book [`shortlist`] lists those for which no other one is better. Firms that come and go
+//! are booked at a grade of a loaded table by four events: [`Desk::survivor_enters`],
+//! [`Desk::survivor_leaves`], [`Desk::survivor_defaults`] and [`Desk::defaulted_removed`].
 //!
 //! ```
 //! use desk::{Desk, Place, Table, Verdict};

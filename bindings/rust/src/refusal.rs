@@ -85,6 +85,9 @@ refusals! {
     Leftover = 33, "bytes after the last table";
     FallingRate = 34, "announced rate below that of the row before";
     LargeTable = 35, "N above 100,000 (compare on shares; N: obligors of the table)";
+    NoGrade = 36, "grade outside the table";
+    NoFirm = 37, "grade without such a firm, or a leaving or removal of the table's last obligor";
+    FullTable = 38, "entry beyond 1,000,000 (obligors of the table)";
 }
 
 impl Refusal {

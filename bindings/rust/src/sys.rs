@@ -5,7 +5,7 @@
 //!
 //! They are safe, whatever the numbers: the header asks for pointers that are not null to memory
 //! that does not overlap, as references are, and for a desk that `desk_empty` made and only
-//! `desk_load` and `desk_clear` changed, which the private fields of [`Desk`] see to.
+//! `desk_load`, `desk_clear` and the four events changed, which the private fields of [`Desk`] see to.
 //! This is the only file that may hold `unsafe`.
 //!
 //! ```
@@ -28,12 +28,12 @@
 
 use crate::answer::{Cutoff, Measures, Price, Spread};
 use crate::fraction::Fraction;
-use crate::{GRADES, version};
+use crate::{GRADES, POOL_NUMBERS, version};
 use std::mem::{align_of, size_of};
 
-/// What one place holds. The derived `==` compares tables, since entries from `grades` on are 0: a
-/// place is zero bytes before a load, and load writes only its grades (contracts of the library:
-/// `fresh` and `placeOf`).
+/// What one place holds: its table as it stands, and the pooled list of it. The derived `==` compares
+/// tables, since every number of a place follows from its table: entries behind those of the grades
+/// are 0, and the list is what [`pool`] writes.
 #[repr(C)]
 #[derive(Clone, PartialEq, Eq, Hash)]
 pub(crate) struct Rows {
@@ -42,6 +42,7 @@ pub(crate) struct Rows {
     pub(crate) announced: [u32; GRADES],
     pub(crate) grades: u32,
     pub(crate) loaded: u32,
+    pooled: [u32; POOL_NUMBERS],
 }
 
 /// Two places, each empty or holding the grade table of one rater.
@@ -85,6 +86,7 @@ impl Desk {
             announced: [0; GRADES],
             grades: 0,
             loaded: 0,
+            pooled: [0; POOL_NUMBERS],
         };
         let mut desk = Desk {
             first: unset.clone(),
@@ -128,7 +130,7 @@ const fn is_laid_out<T>(size: usize, alignment: usize) -> bool {
 }
 
 // No size leaves room for padding, so the fields stand where C has them.
-const _: () = assert!(is_laid_out::<Rows>(488, 4) && is_laid_out::<Desk>(976, 4));
+const _: () = assert!(is_laid_out::<Rows>(968, 4) && is_laid_out::<Desk>(1936, 4));
 const _: () = assert!(is_laid_out::<Price>(8, 4) && is_laid_out::<Verdict>(20, 4));
 const _: () = assert!(is_laid_out::<Cutoff>(16, 8) && is_laid_out::<Spread>(16, 8));
 const _: () = assert!(is_laid_out::<Fraction>(16, 8) && is_laid_out::<Measures>(88, 8));
@@ -171,6 +173,67 @@ unsafe extern "C" {
     #[link_name = "desk_clear"]
     #[must_use = "a refused call does nothing"]
     pub safe fn clear(desk: &mut Desk, place: u32) -> u32;
+
+    /// Books a survivor that enters a grade, counted from 1. Refuses 1, 22, 36, 38.
+    ///
+    /// ```
+    /// use desk::{sys, Desk, Place, Table};
+    ///
+    /// let mut desk = Desk::empty();
+    /// desk.load_table(Place::First, &Table::by_obligors().grade(5, 2, 400_000).grade(0, 0, 1_000_000))?;
+    /// assert_eq!(sys::survivor_enters(&mut desk, 1, 2), 0);
+    /// assert_eq!(sys::survivor_enters(&mut desk, 1, 3), 36);
+    /// assert_eq!(desk.grades(Place::First).last().map(|grade| grade.obligors), Some(1));
+    /// # Ok::<(), desk::Refusal>(())
+    /// ```
+    #[link_name = "desk_survivor_enters"]
+    #[must_use = "a refused call does nothing"]
+    pub safe fn survivor_enters(desk: &mut Desk, place: u32, grade: u32) -> u32;
+
+    /// Books a survivor that leaves a grade, counted from 1. Refuses 1, 22, 36, 37.
+    ///
+    /// ```
+    /// use desk::{sys, Desk, Place, Table};
+    ///
+    /// let mut desk = Desk::empty();
+    /// desk.load_table(Place::First, &Table::by_obligors().grade(3, 2, 400_000))?;
+    /// assert_eq!(sys::survivor_leaves(&mut desk, 1, 1), 0);
+    /// assert_eq!(sys::survivor_leaves(&mut desk, 1, 1), 37, "both that are left have defaulted");
+    /// # Ok::<(), desk::Refusal>(())
+    /// ```
+    #[link_name = "desk_survivor_leaves"]
+    #[must_use = "a refused call does nothing"]
+    pub safe fn survivor_leaves(desk: &mut Desk, place: u32, grade: u32) -> u32;
+
+    /// Books a survivor of a grade, counted from 1, that defaults. Refuses 1, 22, 36, 37.
+    ///
+    /// ```
+    /// use desk::{sys, Desk, Place, Table};
+    ///
+    /// let mut desk = Desk::empty();
+    /// desk.load_table(Place::First, &Table::by_obligors().grade(3, 2, 400_000))?;
+    /// assert_eq!(sys::survivor_defaults(&mut desk, 1, 1), 0);
+    /// assert_eq!(sys::survivor_defaults(&mut desk, 1, 1), 37, "all three have defaulted");
+    /// # Ok::<(), desk::Refusal>(())
+    /// ```
+    #[link_name = "desk_survivor_defaults"]
+    #[must_use = "a refused call does nothing"]
+    pub safe fn survivor_defaults(desk: &mut Desk, place: u32, grade: u32) -> u32;
+
+    /// Books a defaulted firm that is removed from a grade, counted from 1. Refuses 1, 22, 36, 37.
+    ///
+    /// ```
+    /// use desk::{sys, Desk, Place, Table};
+    ///
+    /// let mut desk = Desk::empty();
+    /// desk.load_table(Place::First, &Table::by_obligors().grade(3, 1, 400_000))?;
+    /// assert_eq!(sys::defaulted_removed(&mut desk, 1, 1), 0);
+    /// assert_eq!(sys::defaulted_removed(&mut desk, 1, 1), 37, "both that are left survive");
+    /// # Ok::<(), desk::Refusal>(())
+    /// ```
+    #[link_name = "desk_defaulted_removed"]
+    #[must_use = "a refused call does nothing"]
+    pub safe fn defaulted_removed(desk: &mut Desk, place: u32, grade: u32) -> u32;
 
     /// The cheapest cutoff, among equals the smallest. Refuses 1, 22, 12.
     ///

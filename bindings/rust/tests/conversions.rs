@@ -27,7 +27,7 @@ fn refusals_have_their_numbers_and_no_others() {
         numbers()
             .filter(|&number| Refusal::try_from(number).is_ok())
             .count(),
-        22
+        25
     );
 }
 

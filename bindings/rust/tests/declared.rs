@@ -108,7 +108,7 @@ fn every_function() {
         );
         count += 1;
     }
-    assert_eq!(count, 13, "the entry points, and the version");
+    assert_eq!(count, 17, "the entry points, and the version");
 }
 
 /// What C warns about where its result is not looked at, Rust warns about too.
@@ -131,10 +131,11 @@ fn every_checked_result() {
         assert!(attribute.trim().ends_with(']'), "{name}");
         count += 1;
     }
-    assert_eq!(count, 11);
+    assert_eq!(count, 15);
 }
 
-/// The fields of `uint32_t obligors[DESK_GRADES], grades; DeskPrice price;` as they are here.
+/// The fields of `uint32_t obligors[DESK_GRADES], grades; DeskPrice price;` as they are here, where
+/// lengths have the names of the header's without `DESK_`.
 fn fields(body: &str) -> Vec<String> {
     let mut fields = Vec::new();
     for declared in body
@@ -145,9 +146,9 @@ fn fields(body: &str) -> Vec<String> {
         let (name, list) = declared.split_once(' ').expect(declared);
         let of = rust_type(name);
         for field in list.split(", ") {
-            fields.push(match field.split_once("[DESK_GRADES]") {
-                Some((field, "")) => format!("{field}: [{of}; GRADES],"),
-                _ => format!("{field}: {of},"),
+            fields.push(match field.split_once("[DESK_") {
+                Some((field, length)) => format!("{field}: [{of}; {length},"),
+                None => format!("{field}: {of},"),
             });
         }
     }

@@ -60,7 +60,7 @@ fn every_number_has_its_name() {
         assert!(!rest.contains("Refusal::"), "{method}: {said}");
         count += 1;
     }
-    assert_eq!(count, 16);
+    assert_eq!(count, 20);
 }
 
 #[test]
@@ -84,7 +84,7 @@ fn the_order_is_that_of_the_header() {
         assert_eq!(numbers(&said), expected, "{method}");
         count += 1;
     }
-    assert_eq!(count, 12);
+    assert_eq!(count, 16);
 }
 
 /// A book of tables is refused as the rows of one, with the number of raters before.
@@ -119,5 +119,5 @@ fn the_order_of_sys_is_that_of_the_header() {
         assert_eq!(numbers(said), refused_in_c(&header, name), "{name}");
         count += 1;
     }
-    assert_eq!(count, 11);
+    assert_eq!(count, 15);
 }
