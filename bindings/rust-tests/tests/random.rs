@@ -1,13 +1,15 @@
 //! Random scripts of calls through the C boundary, held against the plain version in `reference/`:
 //! its judgement of the answers, and here the desk and all that is lent, word for word.
 
-use desk::{Cutoff, Desk, Fraction, Grade, Measures, Place, Price, Refusal, Spread, sys};
+use desk::{Cutoff, Desk, Fraction, Grade, Measures, Place, Price, Refusal, Spread, Table, sys};
 use reference::answer::{Answer, verdict_prices};
 use reference::compare::{judge, plan};
 use reference::desk::{LENT_BYTE, LENT_NUMBER};
+use reference::events::{EVERY_EVENT, Event};
 use reference::generate::Script;
 use reference::script::Call;
 use reference::{cutoff, measures, spread};
+use std::collections::BTreeMap;
 use std::fmt::Debug;
 use std::hint::black_box;
 use std::time::{SystemTime, UNIX_EPOCH};
@@ -144,6 +146,16 @@ fn shortlist(length: u32, book: &[u8]) -> Answer {
     Answer::Shortlist(listed, numbers)
 }
 
+fn book(desk: &mut Desk, event: Event, place: u32, grade: u32) -> Answer {
+    let call = match event {
+        Event::SurvivorEnters => sys::survivor_enters,
+        Event::SurvivorLeaves => sys::survivor_leaves,
+        Event::SurvivorDefaults => sys::survivor_defaults,
+        Event::DefaultedRemoved => sys::defaulted_removed,
+    };
+    Answer::Event(event, done(call(desk, place, grade)))
+}
+
 fn narrow(number: impl TryInto<u32>) -> u32 {
     number.try_into().ok().expect("it has 32 bits")
 }
@@ -167,12 +179,20 @@ fn answer(desk: &mut Desk, call: &Call) -> Answer {
         Call::Spread { place } => Answer::Spread(spread(desk, place)),
         Call::Write { length } => write(desk, length),
         Call::Shortlist { length, ref book } => shortlist(length, book),
+        Call::Event {
+            event,
+            place,
+            grade,
+        } => book(desk, event, place, grade),
     }
 }
 
 /// Whether the desk may be another one after this answer.
 fn changes_desk(answer: &Answer) -> bool {
-    matches!(answer, Answer::Load(Ok(())) | Answer::Clear(Ok(())))
+    matches!(
+        answer,
+        Answer::Load(Ok(())) | Answer::Clear(Ok(())) | Answer::Event(_, Ok(()))
+    )
 }
 
 /// Whether both places hold what the plain version's do.
@@ -187,6 +207,19 @@ fn holds_the_same(desk: &Desk, plain: &reference::desk::Desk) -> bool {
         let grades = table.map_or(&[][..], |table| &table.grades);
         desk.is_loaded(place) == table.is_some() && desk.grades(place).eq(grades.iter().map(grade))
     })
+}
+
+/// Whether the desk is the one that a fresh desk becomes which loads its tables: nothing of it, the
+/// pooled lists among it, depends on the way to them.
+fn follows_from_its_tables(desk: &Desk) -> bool {
+    let mut fresh = Desk::empty();
+    for place in [Place::First, Place::Second] {
+        let table: Table = desk.grades(place).collect();
+        if desk.is_loaded(place) && fresh.load_table(place, &table).is_err() {
+            return false;
+        }
+    }
+    *desk == fresh
 }
 
 fn has_empty_grade(desk: &Desk, place: u32) -> bool {
@@ -212,6 +245,7 @@ struct Met {
     lists_of_all: u32,
     lists_of_several: u32,
     lists_of_one: u32,
+    events: BTreeMap<(Event, Result<(), u32>), u32>,
 }
 
 impl Met {
@@ -222,6 +256,9 @@ impl Met {
                 self.poolings_with_empty_grades += u32::from(has_empty_grade(desk, place));
             }
             (_, Answer::Load(Err(34))) => self.falling_rates += 1,
+            (_, &Answer::Event(event, answer)) => {
+                *self.events.entry((event, answer)).or_default() += 1;
+            }
             (_, Answer::CompareShares(Err(35))) => self.large_tables += 1,
             (_, Answer::CompareShares(Ok(verdict))) => {
                 self.other_totals += u32::from(desk.compare() == Err(Refusal::Unlike));
@@ -252,6 +289,7 @@ fn answers(script: &Script, met: &mut Met) -> String {
         assert!(changes_desk(&answer) || desk == before, "{call}");
         plain.call(call);
         assert!(holds_the_same(&desk, &plain), "{call}\n{desk:?}");
+        assert!(follows_from_its_tables(&desk), "{call}\n{desk:?}");
         met.count(&desk, call, &answer);
         lines += &answer.line();
         lines.push('\n');
@@ -284,6 +322,20 @@ fn agrees(seed: u64) {
     ] {
         assert!(times >= least, "{times} {what}");
     }
+    for event in EVERY_EVENT {
+        let full_or_no_firm = if event == Event::SurvivorEnters {
+            38
+        } else {
+            37
+        };
+        for number in [1, 22, 36, full_or_no_firm] {
+            let times = met.events.remove(&(event, Err(number))).unwrap_or(0);
+            assert!(times >= 5, "{times} {event:?} refused {number}");
+        }
+        let times = met.events.remove(&(event, Ok(()))).unwrap_or(0);
+        assert!(times >= 100, "{times} {event:?}");
+    }
+    assert!(met.events.is_empty(), "other numbers: {:?}", met.events);
 }
 
 #[test]

@@ -54,6 +54,20 @@ fn clear_refused(desk: &Desk, place: u32, number: u32) {
     refused(desk, (), number, |desk, ()| sys::clear(desk, place));
 }
 
+/// The four events.
+const EVENTS: [extern "C" fn(&mut Desk, u32, u32) -> u32; 4] = [
+    sys::survivor_enters,
+    sys::survivor_leaves,
+    sys::survivor_defaults,
+    sys::defaulted_removed,
+];
+
+fn event_refused(desk: &Desk, event: usize, place: u32, grade: u32, number: u32) {
+    refused(desk, (), number, |desk, ()| {
+        EVENTS[event](desk, place, grade)
+    });
+}
+
 fn pool_refused(desk: &Desk, place: u32, length: usize, number: u32) {
     refused(desk, vec![0xAAAA_AAAA; length], number, |desk, numbers| {
         sys::pool(desk, place, numbers)
@@ -147,6 +161,10 @@ fn no_such_place() {
             load_refused(&desk, place, &book_of(MIXED), 1, 1);
             load_refused(&desk, place, &[], 0, 1);
             clear_refused(&desk, place, 1);
+            for event in 0..4 {
+                event_refused(&desk, event, place, 1, 1);
+                event_refused(&desk, event, place, 41, 1);
+            }
             pool_refused(&desk, place, 120, 1);
             pool_refused(&desk, place, 0, 1);
             cheapest_refused(&desk, place, (1, u32::MAX), 1);
@@ -165,6 +183,10 @@ fn empty_place() {
     ];
     for (empty, desk) in tables {
         clear_refused(&desk, empty, 22);
+        for event in 0..4 {
+            event_refused(&desk, event, empty, 1, 22);
+            event_refused(&desk, event, empty, 41, 22);
+        }
         pool_refused(&desk, empty, 120, 22);
         pool_refused(&desk, empty, 0, 22);
         cheapest_refused(&desk, empty, (u32::MAX, 1), 22);
@@ -481,5 +503,62 @@ fn shortlist_of_short_buffers() {
             (listed, numbers[0], &numbers[1..]),
             (1, rater, &[7; 16][..])
         );
+    }
+}
+
+/// 36 for a grade outside the table, before 37 and 38; of a place of 1 to 40 grades.
+#[test]
+fn events_outside_the_table() {
+    for grades in 1..=40 {
+        let mut rows = vec![(0, 0); grades];
+        rows[grades - 1] = (1_000_000, 1_000_000); // neither a survivor nor room for one
+        let desk = desk_with(Some(&rows), Some(MIXED));
+        let behind = u32::try_from(grades + 1).expect("few grades");
+        for grade in [0, behind, behind + 1, behind + 255, 1 << 31, u32::MAX] {
+            for event in 0..4 {
+                event_refused(&desk, event, 1, grade, 36);
+            }
+        }
+    }
+}
+
+/// what each event is refused for at each grade of a table; 0 where it is taken. 37 and 38 go by
+/// the grade and by the table.
+#[test]
+fn events_without_such_a_firm() {
+    const SURVIVORS: [u32; 4] = [0, 0, 0, 37];
+    const DEFAULTED: [u32; 4] = [0, 37, 37, 0];
+    const BOTH: [u32; 4] = [0; 4];
+    const NOBODY: [u32; 4] = [0, 37, 37, 37];
+    let cases: [(Rows, &[[u32; 4]]); 6] = [
+        (
+            &[(3, 0), (0, 0), (3, 3), (3, 1)],
+            &[SURVIVORS, NOBODY, DEFAULTED, BOTH],
+        ),
+        (&[(0, 0), (1, 0)], &[NOBODY, [0, 37, 0, 37]]),
+        (&[(1, 1), (0, 0)], &[NOBODY, NOBODY]),
+        (&[(1, 0), (1, 1)], &[SURVIVORS, DEFAULTED]),
+        (
+            &[(999_998, 9), (0, 0), (2, 2)],
+            &[[38, 0, 0, 0], [38, 37, 37, 37], [38, 37, 37, 0]],
+        ),
+        (&[(999_997, 9), (0, 0), (2, 2)], &[BOTH, NOBODY, DEFAULTED]),
+    ];
+    for (rows, expected) in cases {
+        let desks = [
+            desk_with(Some(rows), Some(MIXED)),
+            desk_with(None, Some(rows)),
+        ];
+        for (place, desk) in (1..).zip(&desks) {
+            for (grade, numbers) in (1..).zip(expected) {
+                for (event, &number) in numbers.iter().enumerate() {
+                    if number > 0 {
+                        event_refused(desk, event, place, grade, number);
+                    } else {
+                        assert_eq!(EVENTS[event](&mut desk.clone(), place, grade), 0);
+                    }
+                }
+            }
+        }
     }
 }
