@@ -1,5 +1,6 @@
 /* example [--shares] BOOK BOOK [RATER RATER]: says which of two rating scales over the same obligors is better; with --shares, of two over
- * different books. example --shortlist BOOK: says which raters of a book no other one beats. */
+ * different books. example --shortlist BOOK: says which raters of a book no other one beats. example --events BOOK RATER [EVENT GRADE] ..:
+ * books firms that come and go, EVENT being enters, leaves, defaults or removed, and says the table as it stands then. */
 #include "desk.h"
 #include <inttypes.h>
 #include <stdbool.h>
@@ -149,8 +150,44 @@ static void say_shortlist(const char *path)
     }
 }
 
+static void book_event(Desk *desk, const char *event, const char *grade)
+{
+    static const struct { const char *name; uint32_t (*call)(Desk *, uint32_t, uint32_t); } events[] = {
+        {"enters", desk_survivor_enters}, {"leaves", desk_survivor_leaves}, {"defaults", desk_survivor_defaults}, {"removed", desk_defaulted_removed}};
+    const unsigned long number = strtoul(grade, NULL, 10);
+    for (size_t i = 0; i < sizeof events / sizeof *events; i++) {
+        if (strcmp(event, events[i].name) == 0) {
+            accept_or_exit(event, events[i].call(desk, 1, number <= UINT32_MAX ? (uint32_t)number : 0));
+            return;
+        }
+    }
+    fprintf(stderr, "%s: no event\n", event);
+    exit(1);
+}
+
+/* The words are a book, a rater, and events with their grades. */
+static void say_events(int count, char **words)
+{
+    Desk desk;
+    desk_empty(&desk);
+    load(&desk, 1, words[0], words[1]);
+    for (int i = 2; i < count; i += 2) {
+        book_event(&desk, words[i], words[i + 1]);
+    }
+    const DeskPlace *const place = &desk.first;
+    for (uint32_t i = 0; i < place->grades; i++) {
+        const uint32_t *const pooled = &place->pooled[3 * i]; /* of grade i + 1 */
+        printf("Grade %" PRIu32 ": obligors %" PRIu32 ", defaults %" PRIu32 "; ", i + 1, place->obligors[i], place->defaults[i]);
+        printf("pooled %" PRIu32 " of %" PRIu32 ", band %" PRIu32 ".\n", pooled[0], pooled[1], pooled[2]);
+    }
+}
+
 int main(int count, char **words)
 {
+    if (count >= 4 && count % 2 == 0 && strcmp(words[1], "--events") == 0) {
+        say_events(count - 2, words + 2);
+        return 0;
+    }
     if (count == 3 && strcmp(words[1], "--shortlist") == 0) {
         say_shortlist(words[2]);
         return 0;
@@ -159,7 +196,7 @@ int main(int count, char **words)
     char **const books = words + (on_shares ? 2 : 1), **const raters = books + 2;
     const int given = count - (on_shares ? 2 : 1);
     if (given != 2 && given != 4) {
-        fprintf(stderr, "usage: %s [--shares] BOOK BOOK [RATER RATER], or %s --shortlist BOOK\n", words[0], words[0]);
+        fprintf(stderr, "usage: %s [--shares] BOOK BOOK [RATER RATER], --shortlist BOOK, or --events BOOK RATER [EVENT GRADE] ..\n", words[0]);
         return 2;
     }
     Desk desk;

@@ -1,5 +1,6 @@
 //! compare [--shares] BOOK BOOK [RATER RATER]: says which of two rating scales over the same obligors is better; with --shares, of
-//! two over different books. compare --shortlist BOOK: says which raters of a book no other one beats.
+//! two over different books. compare --shortlist BOOK: says which raters of a book no other one beats. compare --events BOOK RATER
+//! [EVENT GRADE] ..: books firms that come and go, EVENT being enters, leaves, defaults or removed, and says the table as it stands then.
 
 use desk::{Desk, Place, Price, Refusal, Verdict, WrongCut};
 use std::error::Error;
@@ -101,11 +102,40 @@ fn say_shortlist(path: &str) -> Result<(), Box<dyn Error>> {
     Ok(())
 }
 
-fn run(words: &[&str]) -> Result<(), Box<dyn Error>> {
-    if let ["--shortlist", path] = words {
-        return say_shortlist(path);
+fn book_event(desk: &mut Desk, event: &str, grade: &str) -> Result<(), Box<dyn Error>> {
+    let grade = grade.parse().unwrap_or(0); // which every event refuses
+    let booked = match event {
+        "enters" => desk.survivor_enters(Place::First, grade),
+        "leaves" => desk.survivor_leaves(Place::First, grade),
+        "defaults" => desk.survivor_defaults(Place::First, grade),
+        "removed" => desk.defaulted_removed(Place::First, grade),
+        _ => return Err(format!("{event}: no event").into()),
+    };
+    Ok(booked.map_err(|refusal| format!("{event}: {refusal}"))?)
+}
+
+fn say_events(path: &str, rater: &str, events: &[&str]) -> Result<(), Box<dyn Error>> {
+    let mut desk = Desk::empty();
+    load(&mut desk, Place::First, path, rater)?;
+    for event in events.chunks_exact(2) {
+        book_event(&mut desk, event[0], event[1])?;
     }
+    let pooled = desk.pool(Place::First)?;
+    for (number, (grade, pooled)) in (1..).zip(desk.grades(Place::First).zip(pooled)) {
+        let (obligors, defaults) = (grade.obligors, grade.defaults);
+        print!("Grade {number}: obligors {obligors}, defaults {defaults}; ");
+        let (defaults, obligors, band) = (pooled.defaults, pooled.obligors, pooled.band);
+        println!("pooled {defaults} of {obligors}, band {band}.");
+    }
+    Ok(())
+}
+
+fn run(words: &[&str]) -> Result<(), Box<dyn Error>> {
     let (on_shares, books) = match words {
+        ["--shortlist", path] => return say_shortlist(path),
+        ["--events", path, rater, events @ ..] if events.len() % 2 == 0 => {
+            return say_events(path, rater, events);
+        }
         ["--shares", books @ ..] => (true, books),
         _ => (false, words),
     };
@@ -114,7 +144,7 @@ fn run(words: &[&str]) -> Result<(), Box<dyn Error>> {
         [one, other, rater, other_rater] => ([one, other], [rater, other_rater]),
         _ => {
             return Err(
-                "usage: compare [--shares] BOOK BOOK [RATER RATER], or compare --shortlist BOOK"
+                "usage: compare [--shares] BOOK BOOK [RATER RATER], --shortlist BOOK, or --events BOOK RATER [EVENT GRADE] .."
                     .into(),
             );
         }
