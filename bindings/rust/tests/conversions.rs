@@ -61,6 +61,17 @@ fn number_35_is_a_large_table() {
     );
 }
 
+/// Document 02, R-8.
+#[test]
+fn numbers_36_to_38_are_of_events() {
+    let events = [Refusal::NoGrade, Refusal::NoFirm, Refusal::FullTable];
+    assert_eq!([36, 37, 38].map(Refusal::try_from), events.map(Ok));
+    assert_eq!(
+        Refusal::NoGrade.to_string(),
+        "refused 36: grade outside the table"
+    );
+}
+
 #[test]
 fn places_and_refusals_are_ordered_by_number() {
     assert!(Place::First < Place::Second);
