@@ -38,7 +38,7 @@
  * that of an empty std::vector may be), unless said below; what they lend does not overlap.
  * A desk may be read and copied. It starts empty, by desk_empty or as zero bytes, which are an empty desk (so `static Desk
  * desk;` is one); from then on only desk_load, desk_load_rows, desk_clear and the four events may change it: desk_survivor_enters,
- * desk_survivor_leaves, desk_survivor_defaults and desk_defaulted_removed. All other calls keep it. */
+ * desk_survivor_leaves, desk_survivor_defaults and desk_defaulted_removed. */
 #ifndef DESK_H
 #define DESK_H
 
