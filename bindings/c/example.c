@@ -153,7 +153,10 @@ static void say_shortlist(const char *path)
 static void book_event(Desk *desk, const char *event, const char *grade)
 {
     static const struct { const char *name; uint32_t (*call)(Desk *, uint32_t, uint32_t); } events[] = {
-        {"enters", desk_survivor_enters}, {"leaves", desk_survivor_leaves}, {"defaults", desk_survivor_defaults}, {"removed", desk_defaulted_removed}};
+        {"enters", desk_survivor_enters},
+        {"leaves", desk_survivor_leaves},
+        {"defaults", desk_survivor_defaults},
+        {"removed", desk_defaulted_removed}};
     const unsigned long number = strtoul(grade, NULL, 10);
     for (size_t i = 0; i < sizeof events / sizeof *events; i++) {
         if (strcmp(event, events[i].name) == 0) {
