@@ -41,7 +41,7 @@ pub enum Ack {
     Refused(u32),
 }
 
-// The desk that load and clear hand back, beside their answer: an enum cannot hold the places' arrays.
+// The desk that load, clear and the events hand back, beside their answer: an enum cannot hold the places' arrays.
 pub struct Stored {
     pub desk: Desk,
     pub ack: Ack,

@@ -3,12 +3,9 @@ ghost use Prim.Native.Nat.{_+_, _≤_};
 ghost use mathlib.Core.Path.{_≡_};
 ghost use lib.ListN.{length};
 ghost use Rattle.table.specs.Words.{placeIn, tableIn};
-ghost use Rattle.book.specs.Rows.{tableOfRater};
-ghost use Rattle.pooled_place.specs.PooledPlace.{freshPooledPlace, pooledPlaceOf};
 ghost use Rattle.pooled_place.specs.Words.{pooledPlaceSize, IsPooledPlace};
-ghost use Rattle.events.specs.Events.{tableAfter};
 ghost use Rattle.calls.specs.Answers.{leaves};
-ghost use Rattle.calls.specs.Calls.{changeFault, load, clear, event};
+ghost use Rattle.calls.specs.Calls.{changeFault, changedTo, load, clear, event};
 ghost use Rattle.calls.specs.Private.{Fillable};
 ghost use Rattle.desk_c.specs.Image.{wordsFrom, countsFrom};
 ghost use Rattle.desk_c.specs.Private.{deskSize, startOf, withWords};
@@ -48,7 +45,7 @@ pub fn counts_at(desk: &[u32], at: usize) -> &[u32]
 pub fn load_at(desk: &mut [u32], at: usize, book: &[u8], rater: u32) -> u32
     requires { ⌜ (at + pooledPlaceSize ≤ length (now desk)) × Fillable (wordsFrom (now desk) at) ⌝ }
     ensures { λ r. ⌜ r ≡ changeFault (placeIn (wordsFrom (now (desk .entry)) at)) (load (now (book .entry)) rater) ⌝ }
-    ensures { λ r. let w = now (desk .entry) in ⌜ now (desk .exit) ≡ leaves r w (withWords w at (pooledPlaceOf (tableOfRater (now (book .entry)) rater))) ⌝ }
+    ensures { λ r. let w = now (desk .entry) in ⌜ now (desk .exit) ≡ leaves r w (withWords w at (changedTo (tableIn (wordsFrom w at)) (load (now (book .entry)) rater))) ⌝ }
 {
     let end = at + POOLED_PLACE;
     calls::load(&mut desk[at..end], book, rater)
@@ -58,7 +55,7 @@ pub fn load_at(desk: &mut [u32], at: usize, book: &[u8], rater: u32) -> u32
 pub fn clear_at(desk: &mut [u32], at: usize) -> u32
     requires { ⌜ at + pooledPlaceSize ≤ length (now desk) ⌝ }
     ensures { λ r. ⌜ r ≡ changeFault (placeIn (wordsFrom (now (desk .entry)) at)) clear ⌝ }
-    ensures { λ r. ⌜ now (desk .exit) ≡ leaves r (now (desk .entry)) (withWords (now (desk .entry)) at freshPooledPlace) ⌝ }
+    ensures { λ r. let w = now (desk .entry) in ⌜ now (desk .exit) ≡ leaves r w (withWords w at (changedTo (tableIn (wordsFrom w at)) clear)) ⌝ }
 {
     let end = at + POOLED_PLACE;
     calls::clear(&mut desk[at..end])
@@ -68,7 +65,7 @@ pub fn clear_at(desk: &mut [u32], at: usize) -> u32
 pub fn event_at(desk: &mut [u32], at: usize, kind: Event, grade: u32) -> u32
     requires { ⌜ (at + pooledPlaceSize ≤ length (now desk)) × IsPooledPlace (wordsFrom (now desk) at) ⌝ }
     ensures { λ r. ⌜ r ≡ changeFault (placeIn (wordsFrom (now (desk .entry)) at)) (event kind grade) ⌝ }
-    ensures { λ r. let w = now (desk .entry) in ⌜ now (desk .exit) ≡ leaves r w (withWords w at (pooledPlaceOf (tableAfter kind grade (tableIn (wordsFrom w at))))) ⌝ }
+    ensures { λ r. let w = now (desk .entry) in ⌜ now (desk .exit) ≡ leaves r w (withWords w at (changedTo (tableIn (wordsFrom w at)) (event kind grade))) ⌝ }
 {
     let end = at + POOLED_PLACE;
     calls::book_event(&mut desk[at..end], kind, grade)

@@ -38,7 +38,7 @@ use pooled_place::POOLED_PLACE;
 use refusals::NO_PLACE;
 use shortlist::Shortlisted;
 
-const VERSION: u32 = 9;
+const VERSION: u32 = 10;
 
 // The version of this library.
 #[no_mangle]
@@ -50,7 +50,7 @@ pub extern "C" fn desk_version() -> u32
 
 // The same under a name with the number in it: a header of another version asks for another name, which the linker then misses.
 #[no_mangle]
-pub extern "C" fn desk_library_is_version_9() -> u32
+pub extern "C" fn desk_library_is_version_10() -> u32
     ensures { λ r. ⌜ r ≡ version ⌝ }
 {
     desk_version()

@@ -50,14 +50,14 @@ turn w h i n less e =
     let here : getD w i 0 ≡ gradeAt p i .obligors = rw zero-add at (column-at w 0 i less) in
     let all = few (h .sound) in
     elim (decLe (p .grades) i) [
-      yes behind ↦
-        let none = past (h .sound) i behind in
-        let end = ap (λ (t : Table). obligorsIn t) (suffix-end p i behind) in
-        let after = ap (λ (t : Table). obligorsIn t) (suffix-end p (i + 1) (omega arith)) in
-        record { most = omega (arith, here, none, e, all); more = omega (arith, here, none, end, after, e) }
-    | no before ↦
-        let down = ap (λ (t : Table). obligorsIn t) (suffix-at p i (omega arith)) in
-        record { most = omega (arith, here, down, e, all); more = omega (arith, here, down, e) }
+      | yes behind ↦
+          let none = past (h .sound) i behind in
+          let end = ap (λ (t : Table). obligorsIn t) (suffix-end p i behind) in
+          let after = ap (λ (t : Table). obligorsIn t) (suffix-end p (i + 1) (omega arith)) in
+          record { most = omega (arith, here, none, e, all); more = omega (arith, here, none, end, after, e) }
+      | no before ↦
+          let down = ap (λ (t : Table). obligorsIn t) (suffix-at p i (omega arith)) in
+          record { most = omega (arith, here, down, e, all); more = omega (arith, here, down, e) }
     ]
 
 at : (c : tie.In-loop Inv-loop μ-loop) → Turn (now (c .before .before .before .args .place)) (c .before .loop .i) (c .before .loop .all .0)
