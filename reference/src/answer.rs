@@ -1,6 +1,7 @@
 //! The answers to the calls, and the lines of REPLAY.md that show them.
 
 use crate::cutoff::{Price, Verdict};
+use crate::events::Event;
 use crate::measures::Measures;
 use crate::spread::Spread;
 use crate::table::Refusal;
@@ -23,6 +24,7 @@ pub enum Answer {
     Write(Result<usize, Refusal>, Vec<u8>),
     /// How many raters are listed, with the lent numbers after the call.
     Shortlist(Result<usize, Refusal>, Vec<u32>),
+    Event(Event, Result<(), Refusal>),
 }
 
 impl Answer {
@@ -54,13 +56,15 @@ impl Answer {
                 words("shortlist", answer, |count| vec![count.to_string()]),
                 &join(&texts(lent)),
             ),
+            Answer::Event(event, answer) => words(event.name(), answer, |_| vec![]),
         }
     }
 
     /// The refusal number, if the call was refused.
     pub fn refusal(&self) -> Option<Refusal> {
         match self {
-            Answer::Load(answer) | Answer::Clear(answer) | Answer::Pool(answer, _) => answer.err(),
+            Answer::Load(answer) | Answer::Clear(answer) => answer.err(),
+            Answer::Pool(answer, _) | Answer::Event(_, answer) => answer.err(),
             Answer::Cheapest(answer) => answer.err(),
             Answer::Compare(answer) | Answer::CompareShares(answer) => answer.err(),
             Answer::Measures(answer) => answer.err(),

@@ -3,6 +3,7 @@
 
 use crate::answer::Answer;
 use crate::cutoff::{cheapest, verdict, Price, Verdict};
+use crate::events::{after, Event};
 use crate::measures::{brier, measures, Measures};
 use crate::script::Call;
 use crate::shares::{verdict_on_shares, MAX_OBLIGORS_ON_SHARES};
@@ -45,6 +46,11 @@ impl Desk {
             Call::Spread { place } => Answer::Spread(self.spread(place)),
             Call::Write { length } => self.answer_write(length),
             Call::Shortlist { length, ref book } => answer_shortlist(length, book),
+            Call::Event {
+                event,
+                place,
+                grade,
+            } => Answer::Event(event, self.event(event, place, grade)),
         }
     }
 
@@ -72,6 +78,13 @@ impl Desk {
     pub fn clear(&mut self, place: u32) -> Result<(), Refusal> {
         self.table(place)?;
         self.places[place_index(place)?] = None;
+        Ok(())
+    }
+
+    /// Request R-8 of document 02: 1, 22, then what the table says.
+    pub fn event(&mut self, event: Event, place: u32, grade: u32) -> Result<(), Refusal> {
+        let after = after(self.table(place)?, event, grade)?;
+        self.places[place_index(place)?] = Some(after);
         Ok(())
     }
 

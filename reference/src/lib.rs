@@ -1,9 +1,9 @@
-//! The rating scale desk in plain Rust, written from document 01, requests of document
+//! The rating scale desk in plain Rust, written from document 01, requests of document
 //! 02 and REPLAY.md alone: a second opinion on the proved library. Everything is done by
 //! definition, not cleverly, so that it can be read next to the documents.
 //!
-//! * the library: `table`, `book`, `pooling`, `cutoff`, `shares`, `shortlist`, `measures`, `spread`,
-//!   `desk`, `print`;
+//! * the library: `table`, `book`, `pooling`, `cutoff`, `shares`, `shortlist`, `events`, `measures`,
+//!   `spread`, `desk`, `print`;
 //! * the scripts of REPLAY.md: `script` (calls), `answer` (lines);
 //! * the generator: `random`, `announced` (rates), `population` (tables), `partners` and `lenders`
 //!   (pairs of tables), `lumping` and `rivals` (tables of whole books), `diagonal` (tables for
@@ -30,6 +30,7 @@ pub mod diagonal;
 pub mod draft;
 pub mod empty_scene;
 pub(crate) mod empty_tally;
+pub mod events;
 pub mod generate;
 pub mod lenders;
 pub(crate) mod lumping;

@@ -1,6 +1,7 @@
 //! The scripts of REPLAY.md: calls to one desk, as bytes.
 
 use crate::book;
+use crate::events::{Event, EVERY_EVENT};
 use std::fmt;
 
 /// The longest buffer that a script may lend to pool or shortlist, in numbers.
@@ -47,7 +48,16 @@ pub enum Call {
         length: u32,
         book: Vec<u8>,
     },
+    Event {
+        event: Event,
+        place: u32,
+        grade: u32,
+    },
 }
+
+/// The operation of the first event; those of the others follow it.
+const FIRST_EVENT: u32 = 12;
+const LAST_EVENT: u32 = FIRST_EVENT + EVERY_EVENT.len() as u32 - 1;
 
 impl Call {
     /// Operation number and operands, without the book.
@@ -68,6 +78,11 @@ impl Call {
             Call::Write { length } => vec![9, length],
             Call::CompareShares => vec![10],
             Call::Shortlist { length, ref book } => vec![11, length, book.len() as u32],
+            Call::Event {
+                event,
+                place,
+                grade,
+            } => vec![FIRST_EVENT + event as u32, place, grade],
         }
     }
 
@@ -99,6 +114,7 @@ impl Call {
             Call::Write { .. } => "write",
             Call::CompareShares => "compare_shares",
             Call::Shortlist { .. } => "shortlist",
+            Call::Event { event, .. } => event.name(),
         }
     }
 }
@@ -189,6 +205,11 @@ impl<'a> Reader<'a> {
             11 => Call::Shortlist {
                 length: self.length(MAX_LENT_NUMBERS)?,
                 book: self.book()?,
+            },
+            operation @ FIRST_EVENT..=LAST_EVENT => Call::Event {
+                event: EVERY_EVENT[(operation - FIRST_EVENT) as usize],
+                place: self.number()?,
+                grade: self.number()?,
             },
             _ => return None,
         })

@@ -1,5 +1,6 @@
 //! Broken ends of scripts: what no program can carry out, and answers with the line `end`.
 
+use crate::events::Event;
 use crate::random::Random;
 use crate::script::{Call, MAX_BOOK_LENGTH};
 
@@ -9,7 +10,7 @@ pub fn broken_tail(random: &mut Random) -> Vec<u8> {
         |numbers: &[u32]| -> Vec<u8> { numbers.iter().flat_map(|n| n.to_le_bytes()).collect() };
     match random.between(0, 6) {
         // An unknown operation; what follows is not carried out.
-        0 => numbers(&[random.pick(&[0, 12, 256 + 5, u32::MAX]), 5, 5, 5]),
+        0 => numbers(&[random.pick(&[0, 16, 256 + 5, u32::MAX]), 5, 5, 5]),
         // A buffer above its limit; what follows is not carried out.
         1 => numbers(&[3, random.pick(&[0, 1, 2]), random.pick(&[513, u32::MAX]), 5]),
         2 => numbers(&[9, random.pick(&[8_193, u32::MAX]), 5]),
@@ -48,6 +49,11 @@ fn cut_call(random: &mut Random) -> Vec<u8> {
         Call::Brier { place },
         Call::Spread { place },
         Call::Write { length: 46 },
+        Call::Event {
+            event: Event::SurvivorDefaults,
+            place,
+            grade: 1,
+        },
     ];
     let index = random.index(calls.len());
     cut(random, &calls[index])
