@@ -5,7 +5,7 @@
 use crate::answer::{verdict_prices, Answer};
 use crate::cutoff::{cheapest_cost, Price, Verdict};
 use crate::desk::Desk;
-use crate::generate::Script;
+use crate::generate::{Script, MANY_CALLS};
 use crate::random::Random;
 use crate::script::Call;
 use crate::shares::{cheapest_cost_on_shares, MAX_PRICE_ON_SHARES};
@@ -200,11 +200,19 @@ pub struct Failure {
     pub reason: String,
 }
 
-/// The scripts of one run: seeds and numbers of calls. Short ones and long ones.
+const LARGE_RUN: usize = 10_000;
+
+/// The scripts of one run: seeds and numbers of calls. Short ones and long ones; in a run of the
+/// gate's size the first begins with a long list of events.
 pub fn plan(seed: u64, calls: usize) -> Vec<(u64, usize)> {
     let mut random = Random::of_seed(seed);
     let mut scripts = Vec::new();
     let mut left = calls;
+    if calls >= LARGE_RUN {
+        let length = MANY_CALLS + calls / 10;
+        scripts.push((random.bits(), length));
+        left -= length;
+    }
     while left > 0 {
         let length = random
             .pick(&[1, 5, 5, 20, 20, 50, 50, 100, 200, 1_000, 2_000])

@@ -3,10 +3,12 @@
 
 use crate::announced_scene::{rates_in_turn, Rates};
 use crate::band_scene::{edges_in_turn, Edge};
+use crate::courses::{courses_in_turn, Course};
 use crate::cut_scene::{every_cut, Cut};
 use crate::desk::Desk;
 use crate::draft::Draft;
 use crate::empty_scene::{every_pattern, Pattern};
+use crate::events::Event;
 use crate::lenders::{lenders_in_turn, Lenders};
 use crate::nearly_empty_scene::{every_rows, Rows};
 use crate::pair_scene::{every_pair, FaultPair};
@@ -16,9 +18,16 @@ use crate::scenes::SCENES;
 use crate::script::{decode, Call};
 use crate::shares_scene::{faults_in_turn, Holds};
 use crate::shortlist_scene::{every_fault, Fault};
+use crate::spots::{trials, Spot};
 use crate::table::Table;
 use crate::tail::broken_tail;
 use std::collections::BTreeMap;
+
+/// A script of more calls begins with a long list of events on one table, which takes the calls
+/// that it has more.
+pub const MANY_CALLS: usize = 2_000;
+/// The scene of that list.
+pub const LONG_LIST: &str = "a long list of events";
 
 /// A script, with the name of the scene that each call belongs to.
 pub struct Script {
@@ -29,7 +38,7 @@ pub struct Script {
 }
 
 /// What scenes have done to books, by the index of the call that loads or lists them, and to the
-/// tables on the desk, by the index of the call that compares them.
+/// tables on the desk, by the index of the call that compares them or begins to change them.
 #[derive(Default)]
 pub(crate) struct Marks {
     pub cuts: BTreeMap<usize, Cut>,
@@ -39,6 +48,7 @@ pub(crate) struct Marks {
     pub lenders: BTreeMap<usize, Lenders>,
     pub rivals: BTreeMap<usize, Rivals>,
     pub faults: BTreeMap<usize, Fault>,
+    pub courses: BTreeMap<usize, Course>,
 }
 
 impl Script {
@@ -49,6 +59,10 @@ impl Script {
     /// The script, and what its scenes have done.
     pub(crate) fn with_marks(seed: u64, calls: usize) -> (Script, Marks) {
         let mut generator = Generator::of_seed(seed);
+        if calls > MANY_CALLS {
+            generator.name = LONG_LIST;
+            generator.long_list(calls - MANY_CALLS);
+        }
         while generator.calls.len() < calls {
             generator.scene();
         }
@@ -102,6 +116,8 @@ pub struct Generator {
     faults_to_come: Vec<[Holds; 2]>,
     rivals_to_come: Vec<Rivals>,
     faults_of_books_to_come: Vec<Fault>,
+    courses_to_come: Vec<Course>,
+    trials_to_come: Vec<(Spot, Event)>,
     name: &'static str,
 }
 
@@ -123,6 +139,8 @@ impl Generator {
             faults_to_come: vec![],
             rivals_to_come: vec![],
             faults_of_books_to_come: vec![],
+            courses_to_come: vec![],
+            trials_to_come: vec![],
             name: "",
         }
     }
@@ -192,6 +210,14 @@ impl Generator {
             .deal(&mut self.faults_of_books_to_come, every_fault)
     }
 
+    pub(crate) fn next_course(&mut self) -> Course {
+        self.random.deal(&mut self.courses_to_come, courses_in_turn)
+    }
+
+    pub(crate) fn next_trial(&mut self) -> (Spot, Event) {
+        self.random.deal(&mut self.trials_to_come, trials)
+    }
+
     /// A load of a book that is cut wrong in this manner.
     pub(crate) fn load_cut(&mut self, place: u32, draft: Draft, cut: Cut) {
         self.marks.cuts.insert(self.calls.len(), cut);
@@ -232,6 +258,15 @@ impl Generator {
     pub(crate) fn list_faulty(&mut self, length: u32, book: Vec<u8>, fault: Fault) {
         self.marks.faults.insert(self.calls.len(), fault);
         self.emit(Call::Shortlist { length, book });
+    }
+
+    /// The next call is the first of such a course.
+    pub(crate) fn mark_course(&mut self, course: Course) {
+        self.marks.courses.insert(self.calls.len(), course);
+    }
+
+    pub(crate) fn call_count(&self) -> usize {
+        self.calls.len()
     }
 
     pub fn load_pair(&mut self, (first, second): (Table, Table)) {

@@ -6,12 +6,12 @@
 //!   `spread`, `desk`, `print`;
 //! * the scripts of REPLAY.md: `script` (calls), `answer` (lines);
 //! * the generator: `random`, `announced` (rates), `population` (tables), `partners` and `lenders`
-//!   (pairs of tables), `lumping` and `rivals` (tables of whole books), `diagonal` (tables for
-//!   Pietra), `draft` (books), `damage` and `cuts` (of books), `operands`, `scenes`, `cut_scene`,
+//!   (pairs of tables), `lumping` and `rivals` (tables of whole books), `courses` (of tables
+//!   by events), `diagonal` (tables for Pietra), `draft` (books), `damage` and `cuts` (of books), `operands`, `scenes`, `cut_scene`,
 //!   `pair_scene`, `band_scene`, `empty_scene`, `nearly_empty_scene`, `announced_scene`,
-//!   `shares_scene`, `shortlist_scene`, `tail`, `generate`;
+//!   `shares_scene`, `shortlist_scene`, `events_scene`, `tail`, `generate`;
 //! * the comparison: `compare`, `tally`, `empty_tally`, `announced_tally`, `shares_tally`,
-//!   `shortlist_tally`;
+//!   `shortlist_tally`, `events_tally` and `spots` (what events meet);
 //! * `natural`: whole numbers of any size, for the bound on the residual.
 
 pub mod announced;
@@ -21,6 +21,7 @@ pub mod answer;
 pub mod band_scene;
 pub mod book;
 pub mod compare;
+pub mod courses;
 pub mod cut_scene;
 pub mod cutoff;
 pub mod cuts;
@@ -31,6 +32,8 @@ pub mod draft;
 pub mod empty_scene;
 pub(crate) mod empty_tally;
 pub mod events;
+pub mod events_scene;
+pub(crate) mod events_tally;
 pub mod generate;
 pub mod lenders;
 pub(crate) mod lumping;
@@ -53,6 +56,7 @@ pub(crate) mod shares_tally;
 pub mod shortlist;
 pub mod shortlist_scene;
 pub(crate) mod shortlist_tally;
+pub mod spots;
 pub mod spread;
 pub mod table;
 pub mod tail;

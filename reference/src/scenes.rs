@@ -14,7 +14,7 @@ use crate::table::{Table, MAX_GRADES, MAX_OBLIGORS};
 pub type Scene = (&'static str, fn(&mut Generator));
 
 /// How often each scene is taken, in proportion.
-pub const SCENES: [(u64, Scene); 18] = [
+pub const SCENES: [(u64, Scene); 19] = [
     (36, ("two raters, same obligors", Generator::same_obligors)),
     (8, ("two raters, other obligors", Generator::other_obligors)),
     (12, ("one table, all questions", Generator::one_table)),
@@ -33,6 +33,7 @@ pub const SCENES: [(u64, Scene); 18] = [
     (40, ("raters of different books", Generator::other_books)),
     (34, ("shortlist of a whole book", Generator::whole_book)),
     (7, ("write and load back", Generator::write_and_load)),
+    (13, ("firms that come and go", Generator::come_and_go)),
 ];
 
 impl Generator {
@@ -173,8 +174,12 @@ impl Generator {
     /// Any calls with any operands.
     fn wandering(&mut self) {
         for _ in 0..self.random.between(5, 60) {
-            match self.random.between(0, 14) {
+            match self.random.between(0, 17) {
                 0..=2 => self.any_load(),
+                15..=17 => {
+                    let place = self.any_place();
+                    self.any_event(place);
+                }
                 3 => {
                     let place = self.any_place();
                     self.emit(Call::Clear { place });

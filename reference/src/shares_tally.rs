@@ -7,7 +7,7 @@ use crate::lenders::{every_lenders, Lenders};
 use crate::shares::MAX_PRICE_ON_SHARES;
 use crate::shares_scene::{Holds, EVERY_HOLDS};
 use crate::table::Table;
-use crate::tally::{answer_counts, Answers};
+use crate::tally::{answer_counts, Answers, VERDICTS};
 use std::collections::BTreeMap;
 
 #[derive(Default)]
@@ -21,9 +21,6 @@ pub(crate) struct SharesTally {
 
 /// How often each verdict was the answer.
 type Verdicts = BTreeMap<&'static str, usize>;
-
-/// The columns of a table of verdicts.
-const VERDICTS: [&str; 4] = ["equal", "first", "second", "crossing"];
 
 impl SharesTally {
     /// The desk is as the call found and left it.

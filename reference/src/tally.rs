@@ -1,6 +1,6 @@
 //! How often one run exercises which operations, verdicts, kinds of Pietra, rates at the limits of
-//! bands, empty grades, announced rates, tables of two lenders, raters of whole books, refusal
-//! numbers, books cut wrong, pairs of faults, buffers and scenes.
+//! bands, empty grades, announced rates, tables of two lenders, raters of whole books, events,
+//! refusal numbers, books cut wrong, pairs of faults, buffers and scenes.
 
 use crate::announced_tally::AnnouncedTally;
 use crate::answer::{verdict_name, Answer};
@@ -10,6 +10,7 @@ use crate::compare::plan;
 use crate::cut_scene::Cut;
 use crate::desk::Desk;
 use crate::empty_tally::EmptyTally;
+use crate::events_tally::EventsTally;
 use crate::generate::{Marks, Script};
 use crate::measures::{heights, Measures};
 use crate::pair_scene::{every_pair, FaultPair, Where};
@@ -39,6 +40,7 @@ pub struct Tally {
     announced: AnnouncedTally,
     shares: SharesTally,
     shortlist: ShortlistTally,
+    events: EventsTally,
     /// For each refusal number, the calls of each operation.
     refusals: BTreeMap<Refusal, BTreeMap<&'static str, usize>>,
     cuts: BTreeMap<Cut, CutLoads>,
@@ -60,6 +62,9 @@ struct CutLoads {
 const FOR_OCCUPIED: &str = "just enough for the occupied grades";
 const FOR_LISTED: &str = "just enough for the raters listed";
 
+/// The columns of a table of verdicts.
+pub(crate) const VERDICTS: [&str; 4] = ["equal", "first", "second", "crossing"];
+
 /// How often each refusal number was the answer, or none.
 pub(crate) type Answers = BTreeMap<Option<Refusal>, usize>;
 
@@ -77,13 +82,17 @@ impl Tally {
     fn add_script(&mut self, script: &Script, marks: &Marks) {
         self.scripts += 1;
         self.broken_scripts += usize::from(!script.tail.is_empty());
+        self.events.begin_script();
         let mut desk = Desk::fresh();
         for (index, (call, scene)) in script.calls.iter().zip(&script.scenes).enumerate() {
             *self.scenes.entry(scene).or_default() += 1;
             self.add_buffer(&desk, call);
             self.add_pietra(&desk, call);
+            let before = desk.clone();
             let answer = desk.call(call);
             self.add_answer(call.name(), &answer);
+            let course = marks.courses.get(&index).copied();
+            self.events.add(&before, call, &answer, course);
             self.add_blocks(&desk, call, &answer);
             let rows = marks.rows.get(&index).copied();
             self.empty.add(&desk, call, &answer, rows);
@@ -213,6 +222,11 @@ impl Tally {
             self.shortlist.single_table(),
             self.shortlist.pair_table(),
             self.shortlist.book_table(),
+            self.events.course_table(),
+            self.events.spot_table(),
+            two_columns("| after an event | times |", &self.events.blocks),
+            self.events.turn_table(),
+            self.events.question_table(),
             self.refusal_table(),
             self.cut_table(),
             self.pair_table(),
