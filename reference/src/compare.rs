@@ -5,7 +5,7 @@
 use crate::answer::{verdict_prices, Answer};
 use crate::cutoff::{cheapest_cost, Price, Verdict};
 use crate::desk::Desk;
-use crate::generate::{Script, MANY_CALLS};
+use crate::generate::Script;
 use crate::random::Random;
 use crate::script::Call;
 use crate::shares::{cheapest_cost_on_shares, MAX_PRICE_ON_SHARES};
@@ -200,25 +200,25 @@ pub struct Failure {
     pub reason: String,
 }
 
+/// A run of so many calls has a script about events, besides.
 const LARGE_RUN: usize = 10_000;
+const ABOUT_EVENTS: usize = 3_500;
 
-/// The scripts of one run: seeds and numbers of calls. Short ones and long ones; in a run of the
-/// gate's size the first begins with a long list of events.
+/// The scripts of one run: seeds and numbers of calls. Short ones and long ones of all scenes, which
+/// have so many calls together, and in a large run one about events.
 pub fn plan(seed: u64, calls: usize) -> Vec<(u64, usize)> {
     let mut random = Random::of_seed(seed);
     let mut scripts = Vec::new();
     let mut left = calls;
-    if calls >= LARGE_RUN {
-        let length = MANY_CALLS + calls / 10;
-        scripts.push((random.bits(), length));
-        left -= length;
-    }
     while left > 0 {
         let length = random
             .pick(&[1, 5, 5, 20, 20, 50, 50, 100, 200, 1_000, 2_000])
             .min(left);
         scripts.push((random.bits(), length));
         left -= length;
+    }
+    if calls >= LARGE_RUN {
+        scripts.push((random.bits(), ABOUT_EVENTS));
     }
     scripts
 }

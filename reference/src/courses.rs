@@ -48,9 +48,13 @@ pub(crate) const ON_ANY_TABLE: [Course; 9] = [
     AnyGrades, AnyGrades, Refilled, IntoEmpty, Blocks, Verdicts, Verdicts, BothPlaces, LoadedBack,
 ];
 
-/// The limits of a table have more turns: there are several of them.
+/// The limits of a table and the verdicts have more turns: there are several of them.
 pub(crate) fn courses_in_turn() -> Vec<Course> {
-    [&EVERY_COURSE[..], &[DownToOne, Full, Full]].concat()
+    [
+        &EVERY_COURSE[..],
+        &[DownToOne, Full, Full, Verdicts, Verdicts],
+    ]
+    .concat()
 }
 
 impl fmt::Display for Course {

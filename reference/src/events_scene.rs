@@ -1,5 +1,6 @@
-//! The scene "firms that come and go", for request R-8 of document 02: tables take courses by
-//! events, and questions between them show what has become of the desk.
+//! The scenes of scripts about events, for request R-8 of document 02: "firms that come and go",
+//! where tables take courses by events and questions between them show what has become of the desk;
+//! a long list of events on one table; wandering calls with events among them.
 
 use crate::answer::verdict_name;
 use crate::book;
@@ -12,6 +13,7 @@ use crate::partners::partner;
 use crate::pooling::blocks;
 use crate::population::announce;
 use crate::random::Random;
+use crate::scenes::Scene;
 use crate::script::Call;
 use crate::spots::Spot;
 use crate::table::{Grade, Table, MAX_GRADES, MAX_OBLIGORS};
@@ -19,12 +21,21 @@ use crate::table::{Grade, Table, MAX_GRADES, MAX_OBLIGORS};
 use Course::*;
 use Event::*;
 
+/// The scene that a script about events begins with.
+pub const LONG_LIST: &str = "a long list of events";
+
+/// How often each scene of such a script is taken, in proportion.
+pub(crate) const SCENES_OF_EVENTS: [(u64, Scene); 2] = [
+    (9, ("firms that come and go", Generator::come_and_go)),
+    (1, ("wandering among events", Generator::wander)),
+];
+
 /// An event at a grade.
 type At = (Event, u32);
 
 impl Generator {
     /// A course of a table of its own, and now and then another one of what it left.
-    pub(crate) fn come_and_go(&mut self) {
+    fn come_and_go(&mut self) {
         let course = self.next_course();
         let place = self.random.pick(&[1, 2]);
         self.empty(place);
@@ -41,19 +52,34 @@ impl Generator {
         }
     }
 
-    /// Courses one after the other on one table, until the script has so many calls.
-    pub(crate) fn long_list(&mut self, calls: usize) {
+    /// Any calls with any operands, many of them events.
+    fn wander(&mut self) {
+        for _ in 0..self.random.between(5, 40) {
+            let place = self.any_place();
+            match self.random.between(0, 9) {
+                0 => self.any_load(),
+                1 if self.random.chance(50) => self.emit(Call::Clear { place }),
+                2..=6 => self.any_event(place),
+                _ => self.question(),
+            }
+        }
+    }
+
+    /// Loads the table that a long list of events is about; answers its place.
+    pub(crate) fn begin_list(&mut self) -> u32 {
         let place = self.random.pick(&[1, 2]);
         let grade_count = self.random.pick(&[3, 8, 20, 40]);
         let mut table = small_grades(&mut self.random, grade_count);
         announce(&mut self.random, &mut table);
         let draft = Draft::around(&mut self.random, &table);
         self.load(place, draft);
-        while self.call_count() < calls {
-            let course = self.random.pick(&ON_ANY_TABLE);
-            self.take_course(course, place);
-            self.drift(place);
-        }
+        place
+    }
+
+    pub(crate) fn lengthen_list(&mut self, place: u32) {
+        let course = self.random.pick(&ON_ANY_TABLE);
+        self.take_course(course, place);
+        self.drift(place);
     }
 
     fn take_course(&mut self, course: Course, place: u32) {
@@ -104,7 +130,7 @@ impl Generator {
     }
 
     /// Mostly one that is accepted.
-    pub(crate) fn any_event(&mut self, place: u32) {
+    fn any_event(&mut self, place: u32) {
         let Ok(table) = self.desk.table(place).cloned() else {
             let grade = self.random.pick(&[0, 1, 1, 2, 40, 41, u32::MAX]);
             let event = self.random.pick(&EVERY_EVENT);
@@ -400,7 +426,7 @@ impl Generator {
         let draft = Draft::around(&mut self.random, &other);
         self.load(3 - place, draft);
         self.emit(Call::Compare);
-        for _ in 0..self.random.between(3, 5) {
+        for _ in 0..self.random.between(3, 6) {
             self.change_grade(place);
             if self.random.chance(15) {
                 self.emit(Call::CompareShares);
@@ -424,17 +450,15 @@ impl Generator {
     fn turning_steps(&mut self, place: u32) -> Vec<At> {
         let table = self.table_in(place);
         let other = self.table_in(3 - place);
-        let tries = match (self.desk.compare(), table.occupied()) {
-            (Err(_), _) => 0,
-            (_, ..=8) => 40,
-            _ => 8,
-        };
         let now = verdict_name(&verdict(&table, &other));
-        let mut steps = change_of_grade(&mut self.random, &table);
-        for _ in 0..tries {
-            match booked(&table, &steps) {
-                Some(after) if verdict_name(&verdict(&after, &other)) != now => break,
-                _ => steps = change_of_grade(&mut self.random, &table),
+        let mut steps = vec![];
+        for _ in 0..if table.occupied() <= 8 { 40 } else { 10 } {
+            let tried = change_of_grade(&mut self.random, &table);
+            if let Some(after) = booked(&table, &tried) {
+                steps = tried;
+                if verdict_name(&verdict(&after, &other)) != now {
+                    break;
+                }
             }
         }
         steps

@@ -9,12 +9,13 @@ use crate::desk::Desk;
 use crate::draft::Draft;
 use crate::empty_scene::{every_pattern, Pattern};
 use crate::events::Event;
+use crate::events_scene::{LONG_LIST, SCENES_OF_EVENTS};
 use crate::lenders::{lenders_in_turn, Lenders};
 use crate::nearly_empty_scene::{every_rows, Rows};
 use crate::pair_scene::{every_pair, FaultPair};
 use crate::random::Random;
 use crate::rivals::{every_rivals, Rivals};
-use crate::scenes::SCENES;
+use crate::scenes::{Scene, SCENES};
 use crate::script::{decode, Call};
 use crate::shares_scene::{faults_in_turn, Holds};
 use crate::shortlist_scene::{every_fault, Fault};
@@ -23,11 +24,8 @@ use crate::table::Table;
 use crate::tail::broken_tail;
 use std::collections::BTreeMap;
 
-/// A script of more calls begins with a long list of events on one table, which takes the calls
-/// that it has more.
-pub const MANY_CALLS: usize = 2_000;
-/// The scene of that list.
-pub const LONG_LIST: &str = "a long list of events";
+/// A script of more calls is about events.
+pub const MOST_OF_ALL_SCENES: usize = 3_000;
 
 /// A script, with the name of the scene that each call belongs to.
 pub struct Script {
@@ -59,12 +57,14 @@ impl Script {
     /// The script, and what its scenes have done.
     pub(crate) fn with_marks(seed: u64, calls: usize) -> (Script, Marks) {
         let mut generator = Generator::of_seed(seed);
-        if calls > MANY_CALLS {
-            generator.name = LONG_LIST;
-            generator.long_list(calls - MANY_CALLS);
+        if calls > MOST_OF_ALL_SCENES {
+            generator.long_list(calls / 2);
         }
         while generator.calls.len() < calls {
-            generator.scene();
+            match calls > MOST_OF_ALL_SCENES {
+                true => generator.scene_of_events(),
+                false => generator.scene(),
+            }
         }
         generator.calls.truncate(calls);
         generator.scenes.truncate(calls);
@@ -147,8 +147,32 @@ impl Generator {
 
     fn scene(&mut self) {
         let (name, scene) = self.random.weighted(&SCENES);
+        self.play((name, scene));
+    }
+
+    /// Now and then another scene, for the tables that events have left.
+    fn scene_of_events(&mut self) {
+        match self.random.chance(20) {
+            true => self.scene(),
+            false => {
+                let scene = self.random.weighted(&SCENES_OF_EVENTS);
+                self.play(scene);
+            }
+        }
+    }
+
+    fn play(&mut self, (name, scene): Scene) {
         self.name = name;
         scene(self);
+    }
+
+    /// Events on one table, until the script has so many calls.
+    fn long_list(&mut self, calls: usize) {
+        self.name = LONG_LIST;
+        let place = self.begin_list();
+        while self.calls.len() < calls {
+            self.lengthen_list(place);
+        }
     }
 
     pub fn emit(&mut self, call: Call) {
@@ -263,10 +287,6 @@ impl Generator {
     /// The next call is the first of such a course.
     pub(crate) fn mark_course(&mut self, course: Course) {
         self.marks.courses.insert(self.calls.len(), course);
-    }
-
-    pub(crate) fn call_count(&self) -> usize {
-        self.calls.len()
     }
 
     pub fn load_pair(&mut self, (first, second): (Table, Table)) {

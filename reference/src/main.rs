@@ -1,6 +1,6 @@
 //! The commands of the second opinion; see `USAGE`.
 
-use reference::compare::{answers, compare};
+use reference::compare::{answers, compare, plan};
 use reference::generate::Script;
 use reference::print::print;
 use reference::script::decode;
@@ -59,6 +59,7 @@ fn run_comparison(program: &str, seed: u64, calls: usize) -> bool {
     println!("comparing {calls} calls, seed {seed}");
     match compare(program, seed, calls) {
         Ok(scripts) => {
+            let calls: usize = plan(seed, calls).iter().map(|script| script.1).sum();
             println!("all agree: {calls} calls in {scripts} scripts");
             true
         }

@@ -14,7 +14,7 @@ use crate::table::{Table, MAX_GRADES, MAX_OBLIGORS};
 pub type Scene = (&'static str, fn(&mut Generator));
 
 /// How often each scene is taken, in proportion.
-pub const SCENES: [(u64, Scene); 19] = [
+pub const SCENES: [(u64, Scene); 18] = [
     (36, ("two raters, same obligors", Generator::same_obligors)),
     (8, ("two raters, other obligors", Generator::other_obligors)),
     (12, ("one table, all questions", Generator::one_table)),
@@ -33,7 +33,6 @@ pub const SCENES: [(u64, Scene); 19] = [
     (40, ("raters of different books", Generator::other_books)),
     (34, ("shortlist of a whole book", Generator::whole_book)),
     (7, ("write and load back", Generator::write_and_load)),
-    (13, ("firms that come and go", Generator::come_and_go)),
 ];
 
 impl Generator {
@@ -174,12 +173,8 @@ impl Generator {
     /// Any calls with any operands.
     fn wandering(&mut self) {
         for _ in 0..self.random.between(5, 60) {
-            match self.random.between(0, 17) {
+            match self.random.between(0, 14) {
                 0..=2 => self.any_load(),
-                15..=17 => {
-                    let place = self.any_place();
-                    self.any_event(place);
-                }
                 3 => {
                     let place = self.any_place();
                     self.emit(Call::Clear { place });
@@ -189,7 +184,7 @@ impl Generator {
         }
     }
 
-    fn any_load(&mut self) {
+    pub(crate) fn any_load(&mut self) {
         let place = self.any_place();
         let table = self.partner_of(3u32.saturating_sub(place));
         let mut draft = Draft::around(&mut self.random, &table);
@@ -215,7 +210,7 @@ impl Generator {
     }
 
     /// One call that leaves the desk unchanged.
-    fn question(&mut self) {
+    pub(crate) fn question(&mut self) {
         let place = self.any_place();
         match self.random.between(0, 8) {
             0 => {

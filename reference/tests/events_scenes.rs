@@ -2,13 +2,14 @@
 //! a run has every course, every check, and every limit from both sides.
 
 use desks::desk_with;
-use played::calls_of;
+use played::calls_of_scripts;
 use reference::answer::Answer;
 use reference::compare::plan;
 use reference::courses::{Course, EVERY_COURSE};
 use reference::desk::Desk;
 use reference::events::{after, Event, EVERY_EVENT};
-use reference::generate::{Script, LONG_LIST, MANY_CALLS};
+use reference::events_scene::LONG_LIST;
+use reference::generate::{Script, MOST_OF_ALL_SCENES};
 use reference::pooling::blocks;
 use reference::random::Random;
 use reference::script::Call;
@@ -27,6 +28,11 @@ mod played;
 mod tallied;
 
 const SCENE: &str = "firms that come and go";
+
+/// Calls of one scene of scripts about events.
+fn calls_of_events(scene: &str) -> Vec<(Call, Desk, Answer)> {
+    calls_of_scripts(scene, (0..6).map(|seed| (seed, MOST_OF_ALL_SCENES + 1)))
+}
 
 fn said_of_table(course: Course, table: &Table) -> bool {
     let (grades, obligors) = (table.grades.len(), table.obligors());
@@ -157,8 +163,8 @@ fn fewest(spot: Spot) -> [usize; 4] {
         FullAtEmpty | FullAtSmall => [5, 0, 0, 0],
         FullAtLarge => [5, 1, 1, 0],
         NearlyFull => [5, 0, 0, 0],
-        EmptyGrade => [20, 2, 2, 5],
-        NoFirm => [20, 5, 10, 20],
+        EmptyGrade => [20, 2, 2, 2],
+        NoFirm => [20, 5, 10, 10],
         OnlyInGrade | OnlyOfKind => [10; 4],
         Several => [100; 4],
     }
@@ -226,7 +232,7 @@ fn a_run_turns_every_verdict() {
                 }
             }
         }
-        let often = turned.iter().flatten().all(|&times| times >= 2);
+        let often = turned.iter().flatten().all(|&times| times >= 3);
         assert!(often, "seed {seed}: {turned:?}");
     }
 }
@@ -271,33 +277,34 @@ fn longest_list(script: &Script) -> usize {
     longest
 }
 
+/// A run of the gate has a script about events besides its 15,000 calls; a short run has none.
 #[test]
 fn a_run_has_a_thousand_events_on_one_table() {
     for seed in [1, 2, 3] {
-        let (first, calls) = plan(seed, 15_000)[0];
-        assert_eq!(
-            plan(seed, 15_000).iter().map(|s| s.1).sum::<usize>(),
-            15_000
-        );
-        let longest = longest_list(&Script::generate(first, calls));
+        let mut scripts = plan(seed, 15_000);
+        let (last, calls) = scripts.pop().expect("there are scripts");
+        assert_eq!(scripts.iter().map(|script| script.1).sum::<usize>(), 15_000);
+        assert!(scripts.iter().all(|script| script.1 <= MOST_OF_ALL_SCENES));
+        let longest = longest_list(&Script::generate(last, calls));
         assert!(longest >= 1_000, "seed {seed}: {longest}");
+        let few = plan(seed, 2_000);
+        assert_eq!(few.iter().map(|script| script.1).sum::<usize>(), 2_000);
     }
 }
 
-/// The list begins the script, and takes what is more than 2,000 calls; shorter scripts have none.
+/// Half of a script about events is a list on one table.
 #[test]
-fn long_scripts_begin_with_a_long_list() {
+fn scripts_about_events_begin_with_a_long_list() {
     let length = |calls| {
         let script = Script::generate(4, calls);
         assert_eq!(script.calls.len(), calls);
         let is_listed = |scene: &&&str| **scene == LONG_LIST;
         script.scenes.iter().take_while(is_listed).count()
     };
-    assert_eq!(length(MANY_CALLS), 0);
-    assert!((1..=200).contains(&length(MANY_CALLS + 1)));
-    assert!((3_000..=3_200).contains(&length(MANY_CALLS + 3_000)));
-    let script = Script::generate(4, MANY_CALLS + 3_000);
-    assert!(longest_list(&script) > 2_000);
+    assert_eq!(length(MOST_OF_ALL_SCENES), 0);
+    assert!((1_500..=1_700).contains(&length(MOST_OF_ALL_SCENES + 1)));
+    assert!((4_000..=4_200).contains(&length(8_000)));
+    assert!(longest_list(&Script::generate(4, 8_000)) > 2_500);
 }
 
 /// Every event is accepted and refused in the scene, on either place, with the other one loaded and
@@ -305,7 +312,7 @@ fn long_scripts_begin_with_a_long_list() {
 #[test]
 fn the_scene_has_events_on_either_place() {
     let (mut events, mut questions) = (BTreeMap::new(), BTreeMap::new());
-    for (call, desk, answer) in calls_of(SCENE) {
+    for (call, desk, answer) in calls_of_events(SCENE) {
         match (call, answer) {
             (Call::Event { place, .. }, Answer::Event(event, answer)) if desk.is_loaded(place) => {
                 let with_other = desk.is_loaded(3 - place);
@@ -329,7 +336,7 @@ fn the_scene_clears_and_loads_anew() {
     let mut times = 0;
     let mut last_load = BTreeMap::new();
     let mut changed = BTreeSet::new();
-    for (call, desk, answer) in calls_of(SCENE) {
+    for (call, desk, answer) in calls_of_events(SCENE) {
         match (&call, answer.refusal()) {
             (&Call::Event { place, .. }, None) => drop(changed.insert(place)),
             (Call::Load { place, rater, book }, None) => {
@@ -344,11 +351,10 @@ fn the_scene_clears_and_loads_anew() {
     assert!(times >= 5, "{times}");
 }
 
-/// Wandering calls have events among them.
 #[test]
-fn other_scenes_have_events_too() {
+fn wandering_calls_have_events_among_them() {
     let mut times = [0; 2];
-    for (call, _, answer) in calls_of("wandering calls") {
+    for (call, _, answer) in calls_of_events("wandering among events") {
         if let Call::Event { .. } = call {
             times[usize::from(answer.refusal().is_some())] += 1;
         }

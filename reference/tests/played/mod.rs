@@ -1,5 +1,8 @@
 //! The calls of scripts, as they are played.
 
+// Each test takes from here what it needs.
+#![allow(dead_code)]
+
 use reference::answer::Answer;
 use reference::desk::Desk;
 use reference::generate::Script;
@@ -7,9 +10,17 @@ use reference::script::Call;
 
 /// Calls of one scene of scripts, each with the desk that it found and its answer.
 pub fn calls_of(scene: &str) -> Vec<(Call, Desk, Answer)> {
+    calls_of_scripts(scene, (0..300).map(|seed| (seed, 100)))
+}
+
+/// The same of scripts of these seeds and numbers of calls.
+pub fn calls_of_scripts(
+    scene: &str,
+    scripts: impl Iterator<Item = (u64, usize)>,
+) -> Vec<(Call, Desk, Answer)> {
     let mut found = vec![];
-    for seed in 0..300 {
-        let script = Script::generate(seed, 100);
+    for (seed, calls) in scripts {
+        let script = Script::generate(seed, calls);
         let mut desk = Desk::fresh();
         for (call, &name) in script.calls.iter().zip(&script.scenes) {
             let before = desk.clone();
