@@ -15,16 +15,14 @@ apostrophes, rates in percent. All else is refused, with its line, its column an
 """
 from __future__ import annotations
 
-from itertools import islice
 from typing import Iterator, NamedTuple
 
 from .csv_header import EXAMPLE, Header, header_of, is_name_line, names_columns, says, starts_as_name_line, starts_table
-from .csv_problems import Problem, Problems, cited
-from .csv_rows import Line, RowReader, Sheet
-from .csv_text import NOT_CELLS, NOT_TEXT, SEPARATORS, cells_of, is_blank, is_text, lines_of, rough_cells, separator_line, separators_in
+from .csv_lines import FilledLines, Text
+from .csv_problems import Problem
+from .csv_rows import RowReader, Sheet
+from .csv_text import NOT_CELLS, SEPARATORS, cells_of, is_text, rough_cells, separator_line
 
-MOST_LINES, MOST_CHARACTERS = 10_000, 100_000  # of a file, of a line; a book has room for 640 grades
-NOT_A_TABLE = 'Leave out what is not a table of grades'
 NAME_ALONE = f'a line that names a table, and no header below it. Expected a header such as {EXAMPLE}'
 __all__ = ['Problem', 'Reading', 'Sheet', 'is_text', 'read_csv']
 
@@ -35,19 +33,10 @@ class Reading(NamedTuple):
     notes: list[str]  # what was understood and should be said
 
 
-class Text(NamedTuple):
-    """A line as it stands in the file."""
-    number: int
-    text: str
-
-
 def read_csv(content: bytes, first_rater: int = 1) -> Reading:
     """The tables of a CSV file. Its first is that of rater `first_rater` in the notes."""
-    lines, whole = lines_of(content)
-    if not whole:
-        return Reading([], [Problem(len(lines), None, None, NOT_TEXT)], [])
     reader = FileReader(first_rater)
-    reader.read(lines)
+    reader.read(content)
     problems = reader.problems.all()
     return Reading([], problems, []) if problems else Reading(reader.sheets, [], reader.notes)
 
@@ -61,46 +50,19 @@ def blocks_of(lines: list[Text]) -> Iterator[list[Text]]:
             start = end
 
 
-def too_large(lines: list[Text]) -> Problem | None:
-    """Far more than a book has room for is refused before it is looked at, so that no file takes long."""
-    if len(lines) > MOST_LINES:
-        return Problem(lines[MOST_LINES].number, None, None, f'more than {MOST_LINES} lines that are not blank. {NOT_A_TABLE}')
-    long = next((line.number for line in lines if len(line.text) > MOST_CHARACTERS), None)
-    return long and Problem(long, None, None, f'more than {MOST_CHARACTERS} characters in a line. {NOT_A_TABLE}')
-
-
-class FileReader:
+class FileReader(FilledLines):
     """Reads the tables of one file."""
 
+    empty = Problem(None, None, None, f'no table is in it. Expected a header such as {EXAMPLE}', 3)
+
     def __init__(self, first_rater: int) -> None:
+        super().__init__()
         self.first_rater = first_rater
-        self.problems = Problems()
         self.sheets: list[Sheet] = []
         self.notes: list[str] = []
-        self.separator: str | None = None  # known from a line such as sep=; or from the first header that is taken
         self.later = False  # a block stands before this one
 
-    def refuse(self, line: Text, why: str) -> None:
-        self.problems.add(Problem(line.number, None, None, why))
-
-    def read(self, lines: list[str]) -> None:
-        said = separator_line(lines[0])
-        if said in SEPARATORS:
-            self.separator = said
-        elif said is not None:
-            self.refuse(Text(1, lines[0]), f'cells cannot be separated by {cited(said)}. Write sep=, or sep=; or sep= and a tab')
-        first = 0 if said is None else 1
-        filled = (Text(number, text) for number, text in enumerate(lines[first:], first + 1) if not is_blank(text))
-        self.read_filled(list(islice(filled, MOST_LINES + 1)))
-
     def read_filled(self, lines: list[Text]) -> None:
-        """Reads the lines that are not blank."""
-        if not lines:
-            self.problems.add(Problem(None, None, None, f'no table is in it. Expected a header such as {EXAMPLE}', 3))
-        large = too_large(lines)
-        if large:
-            self.problems.add(large)
-            return
         for block in blocks_of(lines):
             at = 0
             while at < len(block):
@@ -118,7 +80,7 @@ class FileReader:
         if header is None:
             return len(block)
         self.separator = separator
-        lines, end = self.lines_below(block, at + 1, header)
+        lines, end = self.lines_below(block, at + 1, lambda cells: starts_table(cells, header))
         rows = RowReader(name, header, lines, separator, self.problems)
         rows.read()
         note = rows.note(self.first_rater + len(self.sheets))
@@ -147,15 +109,6 @@ class FileReader:
             self.refuse(named, NAME_ALONE)
         return at, None
 
-    def separator_for(self, header: Text) -> str | None:
-        found = [self.separator] if self.separator else separators_in(header.text)
-        if len(found) > 1:
-            self.refuse(header, f'the header has {" and ".join(SEPARATORS[one] for one in found)}, so it is not clear which of them '
-                                'separates the cells. Put a cell that holds the others in quotes, or write the separator in the first '
-                                'line of the file, such as sep=;')
-            return None
-        return found[0] if found else ','
-
     def name_in(self, line: Text, separator: str) -> str | None:
         cells = cells_of(line.text, separator)
         if cells and is_name_line(cells):
@@ -176,23 +129,3 @@ class FileReader:
             hint = f' (The cells of this file are separated by {SEPARATORS[self.separator]}.)' if self.separator else \
                 ' (Cells are separated by commas, semicolons or tabs.)'
         return header_of(line.number, cells, hint, self.problems)
-
-    def lines_below(self, block: list[Text], at: int, header: Header) -> tuple[list[Line], int]:
-        """The lines of a table from an index of its block, and the index where it ends."""
-        lines = []
-        while at < len(block):
-            cells = cells_of(block[at].text, self.separator)
-            if cells is not None and starts_table(cells, header):
-                break
-            lines.append(Line(block[at].number, cells))
-            at = 1 + (at if cells is not None else self.end_of_cell(block, at))
-        return lines, at
-
-    def end_of_cell(self, block: list[Text], at: int) -> int:
-        """The index of the line where a quoted cell ends that holds line breaks; `at` itself where its quote has no partner."""
-        if block[at].text.count('"') % 2:
-            for end in range(at + 1, len(block)):
-                _, quote, behind = block[end].text.partition('"')
-                if quote:
-                    return end if behind.lstrip(' ')[:1] in ('', self.separator) else at
-        return at

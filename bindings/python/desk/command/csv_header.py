@@ -19,18 +19,18 @@ WHY_IT_MATTERS = (
 
 
 class Header(NamedTuple):
-    """What each column of a table holds. Columns are counted from 1, as they stand in the file."""
+    """What each column below it holds. Columns are counted from 1, as they stand in the file."""
     line: int
-    counts: str  # 'obligors' or 'survivors'
-    columns: dict[str, int]  # of the three numbers: counts, 'defaults', 'announced'
-    unit: str | None  # of the rates, where the header says it: 'ppm' or '%'
+    columns: dict[str, int]  # that are read; of a table the three numbers: counts, 'defaults', 'announced'
     labels: dict[int, str]  # further columns and their names
     unnamed: list[int]
     width: int  # cells of the header, the empty ones too
+    counts: str = ''  # of a table: 'obligors' or 'survivors'
+    unit: str | None = None  # of the rates, where the header says it: 'ppm' or '%'
 
     def expected(self) -> str:
-        names = {**self.labels, **{column: name for name, column in self.columns.items()}}
-        return f'expected {max(names)} ({listed([names[column] for column in sorted(names)])})'
+        names = {**{column: cited(name) for column, name in self.labels.items()}, **{column: name for name, column in self.columns.items()}}
+        return f'expected {max(names)} ({some_of([names[column] for column in sorted(names)])})'
 
 
 def known(cell: str) -> str | None:
@@ -48,15 +48,24 @@ def names_columns(cells: list[str]) -> bool:
 def header_of(line: int, cells: list[str], hint: str, problems: Problems) -> Header | None:
     """The header that these cells are, or None where it is refused."""
     names = [known(cell) for cell in cells]
-    faults = sorted(faults_of(line, cells, names, hint), key=lambda fault: fault.column or 0)
+    header = header_with(line, cells, names, problems, faults_of(line, cells, names, hint))
+    if header is None:
+        return None
+    counts, = set(COUNTS).intersection(names)
+    columns = {name: header.columns[name] for name in (counts, 'defaults', 'announced')}
+    return header._replace(columns=columns, counts=counts, unit=ANNOUNCED[cells[columns['announced'] - 1].lower()])
+
+
+def header_with(line: int, cells: list[str], names: list[str | None], problems: Problems, own: Iterator[Problem]) -> Header | None:
+    """The header whose cells name these columns, None for any other text; or None, where it is refused with problems of its own kind or
+    with one that any header may have."""
+    faults = sorted((*own, *faults_of_any(line, cells, names)), key=lambda fault: fault.column or 0)
     for fault in faults:
         problems.add(fault)
     if faults:
         return None
-    counts, = set(COUNTS).intersection(names)
-    columns = {name: names.index(name) + 1 for name in (counts, 'defaults', 'announced')}
     others = [column for column, name in enumerate(names, 1) if name is None]
-    return Header(line, counts, columns, ANNOUNCED[cells[columns['announced'] - 1].lower()],
+    return Header(line, {name: column for column, name in enumerate(names, 1) if name is not None},
                   labels={column: cells[column - 1] for column in others if cells[column - 1]},
                   unnamed=[column for column in others if not cells[column - 1]], width=len(cells))
 
@@ -69,6 +78,10 @@ def faults_of(line: int, cells: list[str], names: list[str | None], hint: str) -
                       f'the header names {listed(cells)}, neither obligors nor survivors. {WHY_IT_MATTERS}{hint}')
     if any(names):
         yield from (missing(line, name, cells) for name in ('defaults', 'announced') if name not in names)
+
+
+def faults_of_any(line: int, cells: list[str], names: list[str | None]) -> Iterator[Problem]:
+    """A column that is named twice, and too many of them."""
     for name in sorted(filter(None, set(names))):
         if names.count(name) > 1:
             first = names.index(name)
@@ -98,8 +111,11 @@ def like(names: tuple[str, ...], cells: list[str]) -> int | None:
 
 def listed(cells: list[str]) -> str:
     """Names of columns in a message: the known ones as they are, any other text as it was written."""
-    more = ', ...' if len(cells) > MOST_NAMED else ''
-    return ', '.join(known(cell) or cited(cell) for cell in cells[:MOST_NAMED]) + more
+    return some_of([known(cell) or cited(cell) for cell in cells])
+
+
+def some_of(names: list[str]) -> str:
+    return ', '.join(names[:MOST_NAMED]) + (', ...' if len(names) > MOST_NAMED else '')
 
 
 def is_name_line(cells: list[str]) -> bool:

@@ -1,8 +1,8 @@
-"""How the lines below a header become the rows of a table."""
+"""How the lines below a header are read, and how they become the rows of a table."""
 from __future__ import annotations
 
 import re
-from typing import Callable, Iterator, NamedTuple
+from typing import Any, Callable, Iterator, NamedTuple
 
 from .csv_cells import NotUnderstood, Rates, UNITS, understood, whole_number
 from .csv_header import Header
@@ -29,6 +29,11 @@ class Line(NamedTuple):
     cells: list[str] | None  # None where its quotes do not fit
 
 
+def cell_at(cells: list[str], column: int) -> str:
+    """The cell of a column, counted from 1; an empty one where the line ends before it."""
+    return cells[column - 1] if column <= len(cells) else ''
+
+
 class Parted(NamedTuple):
     """Two neighbouring cells that look like one number with a comma in it."""
     column: int  # of the first
@@ -37,16 +42,25 @@ class Parted(NamedTuple):
     instead: str  # as it should be written
 
 
-class RowReader:
-    """Reads the lines of one table into its sheet."""
+class LineReader:
+    """Reads the lines below a header, whose cells are those that it names."""
 
-    def __init__(self, name: str | None, header: Header, lines: list[Line], separator: str, problems: Problems) -> None:
+    nothing = 'nothing in this line'  # said of a line with nothing in the columns that are read
+    optional: tuple[str, ...] = ()  # columns whose cells may be left out at the end of a line
+    words: tuple[str, ...] = ()  # columns that hold words, not numbers
+
+    def __init__(self, header: Header, lines: list[Line], separator: str, problems: Problems) -> None:
         self.header, self.lines, self.separator, self.problems = header, lines, separator, problems
-        self.sheet = Sheet(name, header.counts, header.line, header.columns, [], [], list(header.labels.values()), [])
         self.columns = sorted(header.columns.items(), key=lambda item: item[1])  # in the order of the file
-        self.rates = rates_of(header, lines)
         self.uneven = any(line.cells is not None and len(line.cells) != header.width for line in lines)
-        self.example: tuple[str, int] | None = None  # a rate as it is written, and in ppm
+
+    def reader(self, name: str) -> Callable[[str], Any]:
+        """How a cell of a column is understood."""
+        raise NotImplementedError
+
+    def take(self, line: int, cells: list[str], values: dict[str, Any]) -> None:
+        """What becomes of a line that is understood."""
+        raise NotImplementedError
 
     def read(self) -> None:
         self.find_unnamed()
@@ -55,7 +69,17 @@ class RowReader:
             if misfit:
                 self.problems.add(misfit)
             else:
-                self.read_row(line.number, line.cells)
+                self.read_line(line.number, line.cells)
+
+    def read_line(self, line: int, cells: list[str]) -> None:
+        values = {}
+        for name, column in self.columns:
+            try:
+                values[name] = self.reader(name)(cell_at(cells, column))
+            except NotUnderstood as reason:
+                self.problems.add(Problem(line, column, name, str(reason)))
+        if len(values) == len(self.columns):
+            self.take(line, cells, values)
 
     def find_unnamed(self) -> None:
         """Columns that hold something and have no name."""
@@ -87,10 +111,10 @@ class RowReader:
                                                                         f'number: write {parted.instead}')
             return Problem(line.number, column, None, f'{self.found(cells)}. Put a cell that holds {SEPARATORS[self.separator]} in quotes')
         for name, column in self.columns:
-            if column > len(cells):
+            if column > len(cells) and name not in self.optional:
                 return Problem(line.number, column, name, self.found(cells))
-        if not any(cells[column - 1] for _, column in self.columns):
-            return Problem(line.number, None, None, 'no numbers in this line. Fill them in, or leave the line out')
+        if not any(cell_at(cells, column) for _, column in self.columns):
+            return Problem(line.number, None, None, f'{self.nothing}. Fill them in, or leave the line out')
         return self.doubt(line)
 
     def found(self, cells: list[str]) -> str:
@@ -108,16 +132,17 @@ class RowReader:
         return None
 
     def parted(self, cells: list[str]) -> Iterator[Parted]:
-        """Where a comma that parts thousands, or the decimal comma of a rate, may have made two cells of one."""
+        """Where a comma within a number may have made two cells of one."""
         for name, column in self.columns if self.separator == ',' else ():
             first, second = (cells[column - 1:column + 1] + ['', ''])[:2]
-            both = f'{first},{second}'
-            unit = UNITS.get(second[-1:]) or self.rates.unit
-            if name == 'announced' and unit:
-                if understood(unit.ppm, both):
-                    yield Parted(column, name, cited(both), unit.text(unit.ppm(both)))
-            elif GROUP_FIRST.fullmatch(first) and GROUP_NEXT.fullmatch(second):
-                yield Parted(column, name, cited(both), f'{first}{second}')
+            instead = self.joined(name, first, second)
+            if instead is not None:
+                yield Parted(column, name, cited(f'{first},{second}'), instead)
+
+    def joined(self, name: str, first: str, second: str) -> str | None:
+        """How to write the number that two neighbouring cells may be, where the comma between them parts thousands."""
+        thousands = name not in self.words and GROUP_FIRST.fullmatch(first) and GROUP_NEXT.fullmatch(second)
+        return f'{first}{second}' if thousands else None
 
     def fits(self, cells: list[str], parted: Parted) -> bool:
         """Whether a line is a row too where the parted cells are one."""
@@ -125,23 +150,34 @@ class RowReader:
         return all(column == parted.column or column <= len(joined) and understood(self.reader(name), joined[column - 1])
                    for name, column in self.columns)
 
+
+class RowReader(LineReader):
+    """Reads the lines of one table into its sheet."""
+
+    nothing = 'no numbers in this line'
+
+    def __init__(self, name: str | None, header: Header, lines: list[Line], separator: str, problems: Problems) -> None:
+        super().__init__(header, lines, separator, problems)
+        self.sheet = Sheet(name, header.counts, header.line, header.columns, [], [], list(header.labels.values()), [])
+        self.rates = rates_of(header, lines)
+        self.example: tuple[str, int] | None = None  # a rate as it is written, and in ppm
+
     def reader(self, name: str) -> Callable[[str], int]:
         return self.rates.read if name == 'announced' else whole_number
 
-    def read_row(self, line: int, cells: list[str]) -> None:
-        numbers = {}
-        for name, column in self.columns:
-            try:
-                numbers[name] = self.reader(name)(cells[column - 1])
-            except NotUnderstood as reason:
-                self.problems.add(Problem(line, column, name, str(reason)))
-        if len(numbers) < len(self.columns):
-            return
-        self.sheet.rows.append((numbers[self.header.counts], numbers['defaults'], numbers['announced']))
+    def joined(self, name: str, first: str, second: str) -> str | None:
+        """The comma may also be the decimal comma of a rate."""
+        unit, both = UNITS.get(second[-1:]) or self.rates.unit, f'{first},{second}'
+        if name == 'announced' and unit:
+            return unit.text(unit.ppm(both)) if understood(unit.ppm, both) else None
+        return super().joined(name, first, second)
+
+    def take(self, line: int, cells: list[str], values: dict[str, int]) -> None:
+        self.sheet.rows.append((values[self.header.counts], values['defaults'], values['announced']))
         self.sheet.lines.append(line)
-        self.sheet.labels.append([cells[column - 1] if column <= len(cells) else '' for column in self.header.labels])
+        self.sheet.labels.append([cell_at(cells, column) for column in self.header.labels])
         if self.example is None or not self.example[1]:
-            self.example = cells[self.header.columns['announced'] - 1], numbers['announced']
+            self.example = cells[self.header.columns['announced'] - 1], values['announced']
 
     def note(self, rater: int) -> str | None:
         """How the rates were understood, where that is not as ppm."""

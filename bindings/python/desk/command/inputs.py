@@ -13,6 +13,12 @@ from .layout import LEAST_OF_A_NAME, MOST_OF_A_NAME, shortened, shown
 from .outcome import Complaint, NotTaken, Question, WrongUsage
 
 
+class Further(NamedTuple):
+    """The further columns of a table: their names, and their cells, a list for each grade."""
+    names: Sequence[str] = ()
+    cells: Sequence[Sequence[str]] = ()
+
+
 class Rater(NamedTuple):
     """One table of a file."""
     file: str
@@ -22,8 +28,15 @@ class Rater(NamedTuple):
     name: str  # to be shown
     counts: str  # obligors or survivors
     rows: Sequence[Row]
-    labels: Sequence[str]  # what else stands beside each grade; empty where nothing does
+    further: Further
     complaints: Sequence[Complaint]  # why load would refuse it
+    after: str = ''  # the events that have been booked on it, in words
+
+    @property
+    def labels(self) -> list[str]:
+        """What else stands beside each grade; empty where nothing does."""
+        labels = [' '.join(cell for cell in cells if cell) for cells in self.further.cells]
+        return labels if any(labels) else []
 
     def table(self) -> Table:
         """The table, if there is no complaint about it."""
@@ -86,18 +99,21 @@ def read_all(files: Sequence[str]) -> tuple[list[Source], list[Complaint]]:
 def of_book(file: str, found: list[TableInBook], number: int) -> Rater:
     complaints = [Complaint.of(refused, file) for refused in row_refusals(found, number)]
     table = found[number - 1]
-    return Rater(file, file, number, None, '', table.counts, table.rows, [], complaints)
+    return Rater(file, file, number, None, '', table.counts, table.rows, Further(), complaints)
 
 
 def of_csv(file: str, content: bytes) -> Source:
-    if len(content) > MOST_BYTES:
-        why = f'over {MOST_BYTES} bytes, far more than {MAX_RATERS} tables need. Is it a table of grades?'
-        raise NotTaken([Complaint(None, file, why)])
+    see_small(file, content, f'{MAX_RATERS} tables need. Is it a table of grades?')
     sheets, problems, notes = read_csv(content)
     if problems:
         raise NotTaken([of_problem(file, problem) for problem in problems])
     raters = [of_sheet(file, sheet, number) for number, sheet in enumerate(sheets, 1)]
     return named(Source(file, False, raters, [Question('reading', f'{file}: {note}') for note in notes]))
+
+
+def see_small(file: str, content: bytes, than: str) -> None:
+    if len(content) > MOST_BYTES:
+        raise NotTaken([Complaint(None, file, f'over {MOST_BYTES} bytes, far more than {than}')])
 
 
 def place(file: str, line: int | None, column: int | None = None) -> str:
@@ -117,8 +133,8 @@ def of_sheet(file: str, sheet: Sheet, number: int) -> Rater:
         problem = Problem(sheet.line, None, None, fault.why, fault.number) if fault.grade is None else Problem(
             sheet.lines[fault.grade], sheet.columns[name], name, fault.why, fault.number)
         complaints.append(of_problem(file, problem))
-    labels = [' '.join(cell for cell in cells if cell) for cells in sheet.labels]
-    return Rater(file, place(file, sheet.line), number, sheet.name, '', sheet.counts, sheet.rows, labels if any(labels) else [], complaints)
+    further = Further(sheet.label_names, sheet.labels)
+    return Rater(file, place(file, sheet.line), number, sheet.name, '', sheet.counts, sheet.rows, further, complaints)
 
 
 def stem(file: str) -> str:

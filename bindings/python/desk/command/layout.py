@@ -47,3 +47,12 @@ def columns(rows: Sequence[Sequence[str]], right: str = '') -> list[str]:
 def counted(number: int, thing: str) -> str:
     """A number with its noun: 1 grade, 2 grades."""
     return f'{number} {thing}{"" if number == 1 else "s"}'
+
+
+def ordinal(number: int) -> str:
+    """
+    >>> ' '.join(map(ordinal, (1, 2, 3, 4, 11, 12, 21, 102, 113)))
+    '1st 2nd 3rd 4th 11th 12th 21st 102nd 113th'
+    """
+    ending = 'th' if 10 < number % 100 < 14 else {1: 'st', 2: 'nd', 3: 'rd'}.get(number % 10, 'th')
+    return f'{number}{ending}'

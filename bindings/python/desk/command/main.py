@@ -111,6 +111,13 @@ def command_line() -> Parser:
     show.add_argument('rater', nargs='?', metavar='RATER', help='its number or name; left out, all raters of a file that has several')
     show.add_argument('--repeated', action='store_true', help='for an empty grade also the pooled rate and band that pool repeats for it, '
                                                               'and of which grade they are')
+    update = command('update', "a rater's table after a sheet of changes: firms that enter, leave, default or are removed",
+                     'desk update inhouse.csv monday.csv -o tuesday.csv')
+    update.usage = 'desk update [-h] [--json] FILE [RATER] CHANGES.csv [-o OUT]'
+    update.add_argument('words', nargs='+', metavar='FILE [RATER] CHANGES.csv', help='the file with the table, the rater by number or name where it '
+                                                                                    'has several, and the sheet: event,grade,times')
+    update.add_argument('-o', dest='output', metavar='OUT', help='the file to write, a book or CSV as its name says: OUT.book or OUT.csv; left out, '
+                                                                 'what would change is shown alone')
     pack = command('pack', 'CSV files to one book; each table is a rater, in the order given',
                    'desk pack inhouse.csv agency.csv -o both.book')
     pack.add_argument('files', nargs='+', metavar='FILE.csv')
@@ -137,6 +144,9 @@ def answer(asked: argparse.Namespace) -> Outcome:
     if asked.command == 'show':
         from .show import show
         return show(asked.file, asked.rater, asked.repeated, shared_library())
+    if asked.command == 'update':
+        from .update import update
+        return update(asked.words, asked.output, shared_library())
     if asked.command == 'pack':
         from .convert import pack
         return pack(asked.files, asked.output)

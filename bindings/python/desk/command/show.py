@@ -17,6 +17,7 @@ from .outcome import Complaint, Outcome, Question, WrongUsage
 PPM = 1_000_000
 CURVES = (('Gini', 'gini'), ('ROC area', 'roc'), ('CAP area', 'cap'), ('Pietra', 'pietra'))
 LINE_HEADING = ('grades', 'obligors', 'survivors', 'defaults', 'rate', 'blocks', *(label for label, _ in CURVES), 'Brier')
+GRADE_HEADING, GRADE_SIDES = ('grade', '', 'obligors', 'survivors', 'defaults', 'observed', 'pooled', 'announced', 'band'), 'r rrrrrrr'
 ABOUT_BANDS = ('Occupied grades with one pooled rate form a block. Band b has the pooled rates of at most 100 times 2^b ppm (0.01% times 2^b) '
                'that no lower band has;\nband 14 has those above 81.92%.')
 ABOUT_EMPTY = 'An empty grade, with no obligors, has no observed and no pooled rate (-); --repeated shows what pool repeats for it.'
@@ -70,7 +71,8 @@ def about_sign(measures: Sequence[dict[str, Any] | None]) -> list[str]:
 
 def summary(rater: Rater, table: Table) -> str:
     """A rater in a line: where it stands, and its totals."""
-    return (f'{shown(rater.name)} (rater {rater.number} of {plain(rater.file)}, by {rater.counts}): '
+    after = f', after {plain(rater.after)}' if rater.after else ''
+    return (f'{shown(rater.name)} (rater {rater.number} of {plain(rater.file)}, by {rater.counts}{after}): '
             f'{counted(len(table.grades), "grade")}{of_them_empty(table)}, '
             f'{table.obligors} obligors = {table.survivors} survivors + {table.defaults} defaults')
 
@@ -148,8 +150,7 @@ def in_full(source: Source, rater: Rater, repeated: bool, library: str) -> Outco
     desk.load(1, table)
     found, spread = measured(desk, 1, table), desk.spread(1)
     grades = list(shown_grades(rater, table, desk.pool(1), repeated))
-    heading = ('grade', '', 'obligors', 'survivors', 'defaults', 'observed', 'pooled', 'announced', 'band')
-    text = '\n'.join([summary(rater, table), '', *columns([heading, *(grade.cells() for grade in grades)], 'r rrrrrrr'), ABOUT_BANDS,
+    text = '\n'.join([summary(rater, table), '', *columns([GRADE_HEADING, *(grade.cells() for grade in grades)], GRADE_SIDES), ABOUT_BANDS,
                       *about_empty(table, repeated), *measures_table([found], ['']),
                       f'Spread: {spread.total} in all, {spread.residual} within the blocks.'])
     data = {'command': 'show', 'rater': summary_data(rater, table), 'grades': [grade.data() for grade in grades], 'measures': found.data(),
