@@ -58,8 +58,8 @@ def booked(rater: Rater, file: str, library: str) -> Booked:
         problems.add(problem._replace(why=problem.why + (LEFT_OUT if min(refused) < refused[-1] else '')))
     if refused:
         raise NotTaken([of_problem(file, problem) for problem in sorted(problems.all(), key=in_order)])
-    events = sum(change.times for change in changes)
-    changed = rater._replace(rows=rows_by(rater.counts, after.table(1)), after=f'{counted(events, "event")} of {file}')
+    events = counted(sum(change.times for change in changes), 'event')
+    changed = rater._replace(rows=rows_by(rater.counts, after.table(1)), after=f'{events} of {file}')
     return Booked(file, changes, State(rater, before), State(changed, after))
 
 

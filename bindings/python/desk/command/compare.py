@@ -2,7 +2,7 @@
 from __future__ import annotations
 
 from fractions import Fraction
-from typing import Any, Sequence
+from typing import Any, NamedTuple, Sequence
 
 from ..answers import Cutoff, Kind, Price, Verdict, decimal
 from ..costs import Comparison, compared
@@ -11,6 +11,8 @@ from ..ranges import BOTH, FIRST, HIGHEST, LOWEST, SECOND, PriceRange, price_ran
 from ..refusals import Refused
 from ..table import MAX_OBLIGORS_ON_SHARES, Table
 from . import questions
+from .after import apart
+from .booking import Booked, booked
 from .files import see_once
 from .inputs import Rater, Source, accepted, read_source, told_apart
 from .layout import columns, counted, shown
@@ -26,9 +28,13 @@ INSTEAD = f'. With --shares scales of different books are compared, of at most {
 
 
 def compare(words: Sequence[str], prices: Sequence[Price], shares: bool, library: str) -> Outcome:
-    """The verdict on two raters, by counts or on shares: of `FILE`, `FILE A B`, `FILE FILE` or `FILE FILE A B`."""
-    raters, asked = chosen(words)
-    tables = accepted(raters)
+    """The verdict on two raters, by counts or on shares: of `FILE`, `FILE A B`, `FILE FILE` or `FILE FILE A B`, each after the sheet of changes
+    behind it."""
+    words, sheets = apart(words)
+    raters, asked = chosen(words, sheets)
+    changes = booked_on(raters, sheets, library, asked)
+    raters = told_apart(*(each.after.rater if each else rater for each, rater in zip(changes, raters)))
+    tables = [rater.table() for rater in raters]
     desk = loaded(tables, library)
     for table in tables:
         asked += questions.of_table(table)
@@ -40,32 +46,39 @@ def compare(words: Sequence[str], prices: Sequence[Price], shares: bool, library
     measures = [measured(desk, place, table) for place, table in enumerate(tables, 1)]
     asked += [question for each in measures for question in each.questions]
     names = [shown(rater.name) for rater in raters]
-    sentence = verdict.sentence(*names) + (OWN_BOOKS if shares else '')
-    text = '\n'.join([summary(rater, table) for rater, table in zip(raters, tables)] + ['', sentence, '']
+    sentence, before = sentence_of(verdict, names, shares), earlier(changes, raters, shares, library)
+    text = '\n'.join([summary(rater, table) for rater, table in zip(raters, tables)] + ['', *(before.told(sentence) if before else [sentence]), '']
                      + ([ON_SHARES, one_by_one(tables, names)] if shares else [BY_COUNTS]) + [CUTOFFS]
+                     + (before.ranges_text(names, shares) if before else [])
                      + ranges_text(ranges, verdict, names, shares) + costs_text(priced + own, raters, shares) + ['']
                      + measures_table(measures, names))
     data = {'command': 'compare', 'first': summary_data(raters[0], tables[0]), 'second': summary_data(raters[1], tables[1]),
             'shares': shares, 'verdict': verdict.kind.name.lower(), 'sentence': sentence, 'ranges': [range_data(each) for each in ranges],
             'separating': [cost_data(*each) for each in priced], 'prices': [cost_data(*each) for each in own],
-            'measures': {'first': measures[0].data(), 'second': measures[1].data()}}
+            'measures': {'first': measures[0].data(), 'second': measures[1].data()},
+            'changes': {place: each and each.data() for place, each in zip((FIRST, SECOND), changes)}, 'before': before and before.data()}
     return Outcome(text, data, asked)
+
+
+def sentence_of(verdict: Verdict, names: Sequence[str], shares: bool) -> str:
+    return verdict.sentence(*names) + (OWN_BOOKS if shares else '')
 
 
 # Which raters
 
-def chosen(words: Sequence[str]) -> tuple[list[Rater], list[Question]]:
-    """The two raters that the words name, and what their files should be asked."""
+def chosen(words: Sequence[str], sheets: Sequence[str | None]) -> tuple[list[Rater], list[Question]]:
+    """The two raters that the words name, whose tables load accepts, and what their files should be asked. Sheets of changes are read too."""
     if not 1 <= len(words) <= 4:
         raise WrongUsage(f'compare takes FILE [FILE] [A B], not {len(words)} words')
     files, names = (words[:1], words[1:]) if len(words) in (1, 3) else (words[:2], words[2:])
-    see_once(files)
+    see_once([*files, *filter(None, sheets)])
     sources = [read_source(file) for file in files]
     if names:
         raters = [source.rater(word) for source, word in zip((sources[0], sources[-1]), names)]
     else:
         raters = [rater for source in sources for rater in all_of(source, 3 - len(sources))]
-    return told_apart(*raters), [question for source in sources for question in source.questions]
+    accepted(raters)
+    return raters, [question for source in sources for question in source.questions]
 
 
 def all_of(source: Source, count: int) -> Sequence[Rater]:
@@ -80,6 +93,52 @@ def all_of(source: Source, count: int) -> Sequence[Rater]:
         instead = f'Name two of them behind the file, as in: desk compare {source.file} 1 2'
     raise WrongUsage(f'{source.file} has {counted(len(source.raters), "rater")}: {source.names()}. {instead}')
 
+
+# Before and after
+
+def booked_on(raters: Sequence[Rater], sheets: Sequence[str | None], library: str, asked: Sequence[Question]) -> list[Booked | None]:
+    """What the sheets make of both raters, None where there is none; or all that is refused of either sheet."""
+    found, refusals = [], []
+    for rater, sheet in zip(raters, sheets):
+        try:
+            found.append(None if sheet is None else booked(rater, sheet, library))
+        except NotTaken as not_taken:
+            refusals += not_taken.refusals
+    if refusals:
+        raise NotTaken(refusals, asked)
+    return found
+
+
+class Earlier(NamedTuple):
+    """What the comparison was before the changes: the verdict and the ranges, or why there was none."""
+    verdict: Verdict | None
+    ranges: Sequence[PriceRange]
+    sentence: str
+
+    def told(self, now: str) -> list[str]:
+        return [f'Before the changes: {self.sentence}', f'After the changes: {now}']
+
+    def ranges_text(self, names: Sequence[str], shares: bool) -> list[str]:
+        return ranges_text(self.ranges, self.verdict, names, shares, ' before') if self.verdict else []
+
+    def data(self) -> dict[str, Any]:
+        return {'verdict': self.verdict and self.verdict.kind.name.lower(), 'sentence': self.sentence,
+                'ranges': [range_data(each) for each in self.ranges]}
+
+
+def earlier(changes: Sequence[Booked | None], raters: Sequence[Rater], shares: bool, library: str) -> Earlier | None:
+    """The comparison of the same raters without the changes; None where there are none."""
+    if not any(changes):
+        return None
+    tables = [(each.before.rater if each else rater)._replace(name=rater.name).table() for each, rater in zip(changes, raters)]
+    try:
+        comparison, ranges = judged(loaded(tables, library), tables, shares, [])
+    except NotTaken as not_taken:
+        return Earlier(None, [], str(not_taken))
+    return Earlier(comparison.verdict, ranges, sentence_of(comparison.verdict, [shown(rater.name) for rater in raters], shares))
+
+
+# The comparison
 
 def loaded(tables: Sequence[Table], library: str) -> Desk:
     """A desk with these tables in its places."""
@@ -161,12 +220,12 @@ def interval(found: PriceRange, shares: bool) -> str:
     return f'from {start} to {end}' if found.includes_start else f'between {start} and {end}'
 
 
-def ranges_text(ranges: Sequence[PriceRange], verdict: Verdict, names: Sequence[str], shares: bool) -> list[str]:
+def ranges_text(ranges: Sequence[PriceRange], verdict: Verdict, names: Sequence[str], shares: bool, when: str = '') -> list[str]:
     if verdict.kind is Kind.EQUAL:
         return []
     rows = [(interval(each, shares), in_words(each.cheaper, names)) for each in ranges
             if each.start != each.end or each.start not in (LOWEST, HIGHEST)]
-    return [''] + columns([('price ratio u:v', 'cheaper'), *rows])
+    return [''] + columns([(f'price ratio u:v{when}', f'cheaper{when}'), *rows])
 
 
 def costs_text(priced: Sequence[tuple], raters: Sequence[Rater], shares: bool) -> list[str]:

@@ -30,7 +30,7 @@ class Rater(NamedTuple):
     rows: Sequence[Row]
     further: Further
     complaints: Sequence[Complaint]  # why load would refuse it
-    after: str = ''  # the events that have been booked on it, in words
+    after: str = ''  # what has been booked on it since, in words
 
     @property
     def labels(self) -> list[str]:
@@ -40,7 +40,7 @@ class Rater(NamedTuple):
 
     def table(self) -> Table:
         """The table, if there is no complaint about it."""
-        return Table.of_rows(self.counts, self.rows, self.name)
+        return Table.of_rows(self.counts, self.rows, f'{self.name} after {self.after}' if self.after else self.name)
 
 
 class Source(NamedTuple):
@@ -151,7 +151,8 @@ def named(source: Source) -> Source:
 def told_apart(first: Rater, second: Rater) -> list[Rater]:
     """Two raters, with names that differ as they are shown: by what is put behind them where they are the same."""
     raters, names = (first, second), [first.name, second.name]
-    for endings in ([f' of {rater.file}' for rater in raters], [f' (rater {rater.number})' for rater in raters], (' (first)', ' (second)')):
+    for endings in ([' (changed)' if rater.after else '' for rater in raters], [f' of {rater.file}' for rater in raters],
+                    [f' (rater {rater.number})' for rater in raters], (' (first)', ' (second)')):
         if shown(names[0]) != shown(names[1]):
             break
         names = [shortened(rater.name, max(MOST_OF_A_NAME - len(ending), LEAST_OF_A_NAME)) + ending

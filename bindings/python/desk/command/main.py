@@ -18,6 +18,7 @@ from ..answers import Price
 from ..library import LibraryMissing
 from ..refusals import MEANINGS
 from ..version import VERSION
+from .after import OPTION, marked
 from .layout import plain
 from .outcome import NotTaken, Outcome, WrongUsage
 
@@ -96,7 +97,7 @@ def command_line() -> Parser:
         made.add_argument('--json', action='store_true', help='answer as JSON (docs/COMMAND.md has its form)')
         return made
     compare = command('compare', 'which of two scales is better', 'desk compare inhouse.csv agency.csv --prices 50:1')
-    compare.usage = 'desk compare [-h] [--json] [--shares] [--prices U:V] FILE [FILE] [A B]'
+    compare.usage = 'desk compare [-h] [--json] [--shares] [--prices U:V] FILE [--after CHANGES.csv] [FILE [--after CHANGES.csv]] [A B]'
     compare.add_argument('words', nargs='+', metavar='FILE [FILE] [A B]', help='one or two files, then the raters by number or name where '
                                                                                'a file has several: A of the first file, B of the second')
     compare.add_argument('--shares', action='store_true', help='compare scales of books of different sizes: costs go by shares of each '
@@ -104,6 +105,8 @@ def command_line() -> Parser:
     compare.add_argument('--prices', action='append', default=[], type=prices, metavar='U:V',
                          help='also the cheapest cutoffs of both at these prices of a missed default and of a survivor turned away, with '
                               '--shares of all defaults missed and of all survivors turned away; may be repeated')
+    compare.add_argument(OPTION, action='append', metavar='CHANGES.csv',
+                         help='behind a file, or behind A or B: compare its table as the changes of this sheet leave it, see desk update')
     shortlist = command('shortlist', 'the raters of a book that no other one beats, and who beats the others', 'desk shortlist portfolio.book')
     shortlist.add_argument('files', nargs='+', metavar='FILE', help='a book, or several files whose raters, in this order, are taken as one book')
     show = command('show', 'the grades, rates and measures of a rater, or all raters at a glance', 'desk show portfolio.book 3')
@@ -256,7 +259,7 @@ def tell(outcome: Outcome, as_json: bool) -> int:
 def run(arguments: list[str]) -> int:
     """Answers one command line."""
     try:
-        asked = command_line().parse_args(arguments)
+        asked = command_line().parse_args(marked(arguments) if arguments[:1] == ['compare'] else arguments)
     except SystemExit:  # after --help or --version
         return ANSWERED
     try:

@@ -1,0 +1,49 @@
+"""`--after CHANGES.csv` of `desk compare`: a sheet of changes, behind the file or the rater that it changes."""
+from __future__ import annotations
+
+from typing import Sequence
+
+from .outcome import WrongUsage
+
+OPTION = '--after'
+MARK = '\0'  # before the word of a sheet; no word of a command line holds it
+FIRST, SECOND = 0, 1
+# Which rater stands before a sheet, by how many words there are and how many of them stand before it: FILE FILE, FILE A B or FILE FILE A B.
+BEFORE = {(2, 1): FIRST, (2, 2): SECOND, (3, 2): FIRST, (3, 3): SECOND, (4, 1): FIRST, (4, 2): SECOND, (4, 3): FIRST, (4, 4): SECOND}
+WHERE = (f'{OPTION} stands behind the file that it changes, as in: desk compare FILE {OPTION} CHANGES.csv FILE; or, where one file has both raters, '
+         f'behind the rater: desk compare FILE 1 {OPTION} CHANGES.csv 2')
+
+
+def marked(arguments: Sequence[str]) -> list[str]:
+    """The arguments with each sheet as one marked word in its place. The parser of options would not say what stood before it."""
+    found, left = [], list(arguments)
+    while left and left[0] != '--':
+        word = left.pop(0)
+        name, equals, sheet = word.partition('=')
+        if len(name) <= len('--') or not OPTION.startswith(name):
+            found.append(word)
+        elif equals:
+            found.append(MARK + sheet)
+        elif left and (left[0] == '-' or not left[0].startswith('-')):
+            found.append(MARK + left.pop(0))
+        else:
+            found.append(word)  # the parser says that there is none
+    return found + left
+
+
+def apart(words: Sequence[str]) -> tuple[list[str], list[str | None]]:
+    """The words that are no sheets, and the sheets of the first rater and of the second."""
+    others = [word for word in words if not word.startswith(MARK)]
+    sheets: list[str | None] = [None, None]
+    count = 0
+    for word in words:
+        if not word.startswith(MARK):
+            count += 1
+            continue
+        rater = BEFORE.get((len(others), count))
+        if rater is None:
+            raise WrongUsage(WHERE)
+        if sheets[rater] is not None:
+            raise WrongUsage(f'{OPTION} changes the {("first", "second")[rater]} rater twice: put both lists into one')
+        sheets[rater] = word[len(MARK):]
+    return others, sheets
