@@ -20,7 +20,8 @@ LINE_HEADING = ('grades', 'obligors', 'survivors', 'defaults', 'rate', 'blocks',
 GRADE_HEADING, GRADE_SIDES = ('grade', '', 'obligors', 'survivors', 'defaults', 'observed', 'pooled', 'announced', 'band'), 'r rrrrrrr'
 ABOUT_BANDS = ('Occupied grades with one pooled rate form a block. Band b has the pooled rates of at most 100 times 2^b ppm (0.01% times 2^b) '
                'that no lower band has;\nband 14 has those above 81.92%.')
-ABOUT_EMPTY = 'An empty grade, with no obligors, has no observed and no pooled rate (-); --repeated shows what pool repeats for it.'
+NO_RATES = 'An empty grade, with no obligors, has no observed and no pooled rate (-)'
+ABOUT_EMPTY = f'{NO_RATES}; --repeated shows what pool repeats for it.'
 ABOUT_MEASURES = 'Higher is better; of Brier, which scores the announced rates, lower.'
 ABOUT_SIGN = 'A negative Pietra: where the ROC curve is farthest from the diagonal, it is below it. Elsewhere it may be above.'
 

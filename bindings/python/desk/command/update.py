@@ -13,7 +13,7 @@ from .files import see_apart, see_once, write_whole
 from .inputs import Rater, Source, accepted, read_source
 from .layout import columns, counted, percent, plain
 from .outcome import Outcome, WrongUsage
-from .show import ABOUT_BANDS, GRADE_HEADING, GRADE_SIDES, about_empty, summary, summary_data
+from .show import ABOUT_BANDS, GRADE_HEADING, GRADE_SIDES, NO_RATES, empty_grades, summary, summary_data
 
 ENDINGS = f'{CSV} or {BOOK}'
 ABOUT_ARROWS = 'What has moved stands as before -> after.'
@@ -64,9 +64,10 @@ def page(found: Booked) -> list[str]:
     """What was and what is, grade by grade."""
     before, after = (list(state.grades()) for state in (found.before, found.after))
     rows = [moved(was.cells(), now.cells()) for was, now in zip(before, after)]
-    rows.append(moved(totals(found.before.table), totals(found.after.table)))
-    return [summary(found.before.rater, found.before.table), summary(found.after.rater, found.after.table), '',
-            *columns([GRADE_HEADING, *rows], GRADE_SIDES), ABOUT_ARROWS, ABOUT_BANDS, *about_empty(found.after.table, False), '']
+    tables = [state.table for state in (found.before, found.after)]
+    about_empty = [f'{NO_RATES}.'] if any(map(empty_grades, tables)) else []
+    return [summary(found.before.rater, tables[0]), summary(found.after.rater, tables[1]), '',
+            *columns([GRADE_HEADING, *rows, moved(*map(totals, tables))], GRADE_SIDES), ABOUT_ARROWS, ABOUT_BANDS, *about_empty, '']
 
 
 def moved(before: Sequence[str], after: Sequence[str]) -> list[str]:
