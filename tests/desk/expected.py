@@ -90,7 +90,8 @@ def compare_data(first: Scale, second: Scale, prices: Sequence[tuple], separatin
             'verdict': verdict_of(ranges), 'ranges': ranges,
             'separating': [costs_data(first, second, price, shares) for price in separating],
             'prices': [costs_data(first, second, price, shares) for price in prices],
-            'measures': {'first': measures_data(first.grades), 'second': measures_data(second.grades)}}
+            'measures': {'first': measures_data(first.grades), 'second': measures_data(second.grades)},
+            'changes': {'first': None, 'second': None}, 'before': None}
 
 
 # shortlist
