@@ -45,7 +45,16 @@ class Answers(Case):
                   ('unpack', example('refusals.book')), ('unpack', example('portfolio.book'), '-o', output),
                   ('pack', upside_down, '-o', output), ('pack', none, '-o', output), ('show', example('swapped.csv')), ('refusals',),
                   ('refusals', '9')]
-        return [ask(*words, '--json') for words in asked] + self.of_products()
+        return [ask(*words, '--json') for words in asked + self.of_changes()] + self.of_products()
+
+    def of_changes(self) -> list[tuple]:
+        inhouse, agency, slips = (example(f'monday/{name}.csv') for name in ('inhouse', 'agency', 'slips'))
+        tables, sheets = [example('inhouse.csv'), example('agency.csv')], [inhouse, agency]
+        other = self.put('other.book', book_of([('obligors', [(1000, 79, 80000)])]))
+        default = self.put('default.csv', 'event,grade\ndefaults,1\n')
+        return [('update', tables[0], inhouse), ('update', tables[1], agency, '-o', self.path('out.csv')), ('update', tables[0], slips),
+                ('compare', tables[0], '--after', sheets[0], tables[1], '--after', sheets[1]), ('compare', tables[0], '--after', slips, tables[1]),
+                ('compare', tables[0], other, '--after', default)]
 
     def of_products(self) -> list[Ran]:
         """Answers that come from what is built: of a stand-in for the printing program, and its name."""

@@ -31,6 +31,7 @@ ROWS = {8: [(5, 1, 0), (1, 2, 0)], 9: [(0, 0, 0), (0, 0, 0)], 10: [(5, 1, 0), (1
         34: [(5, 1, 7), (1, 0, 6)]}
 FROM_CSV = {3: '\n', 6: OBLIGORS}
 TOGETHER = {23: ([(2, 0, 0)], [(2, 1, 0)]), 24: ([(2, 1, 0)], [(2, 2, 0)]), 25: ([(2, 1, 0)], [(3, 1, 0)])}
+FROM_A_SHEET = {36: 'enters,2', 37: 'leaves,1', 38: 'enters,1'}
 ON_SHARES = {23: TOGETHER[23], 24: TOGETHER[24], 35: ([(2, 1, 0)], [(100_001, 1, 0)])}
 
 
@@ -94,13 +95,21 @@ class Numbers(Converting):
             self.seen(number, 'compare', path, '--shares')
             self.seen(number, 'compare', '--shares', path, '2', '1')
 
+    def test_of_changes(self) -> None:
+        full = self.put('full.book', book_of([('obligors', [(1_000_000, 1_000_000, 0)])]))
+        for number, change in FROM_A_SHEET.items():
+            sheet = self.put('sheet.csv', f'event,grade\n{change}\n')
+            for words in (('update', full, sheet), ('update', full, '1', sheet, '-o', self.path('out.csv')), ('compare', full, '--after', sheet, full),
+                          ('compare', full, full, '1', '1', '--after', sheet, '--shares')):
+                self.seen(number, *words)
+
     def test_of_measures(self) -> None:
         for number, rows in ((23, [(2, 0, 0)]), (24, [(2, 2, 0)])):
             path = self.put('a.book', book_of([('obligors', rows)]))
             self.assertIn(f'desk: refused {number}: {WORDS[number]}; the measures of a\n', ask('show', path).err)
 
     def test_every_number_is_tried(self) -> None:
-        self.assertEqual(sorted({*FROM_A_BOOK, *ROWS, *FROM_CSV, *TOGETHER, *ON_SHARES, 4, 12, *UNREACHABLE}), sorted(WORDS))
+        self.assertEqual(sorted({*FROM_A_BOOK, *ROWS, *FROM_CSV, *TOGETHER, *ON_SHARES, *FROM_A_SHEET, 4, 12, *UNREACHABLE}), sorted(WORDS))
 
 
 class Words(Case):

@@ -15,25 +15,40 @@ WHERE = (f'{OPTION} stands behind the file that it changes, as in: desk compare 
 
 
 def marked(arguments: Sequence[str]) -> list[str]:
-    """The arguments with each sheet as one marked word in its place. The parser of options would not say what stood before it."""
+    """The arguments with each sheet as a marked word behind the word that it follows. The parser of options would not say which that was."""
     found, left = [], list(arguments)
     while left and left[0] != '--':
         word = left.pop(0)
         name, equals, sheet = word.partition('=')
-        if len(name) <= len('--') or not OPTION.startswith(name):
+        if not short_for(OPTION, name) or not equals and not (left and is_word(left[0])):  # of one without a sheet the parser says so
             found.append(word)
-        elif equals:
-            found.append(MARK + sheet)
-        elif left and (left[0] == '-' or not left[0].startswith('-')):
-            found.append(MARK + left.pop(0))
         else:
-            found.append(word)  # the parser says that there is none
+            found.insert(behind_last_word(found), MARK + (sheet if equals else left.pop(0)))
     return found + left
+
+
+def short_for(option: str, word: str) -> bool:
+    """Whether a word is an option or as much of it as tells it from others."""
+    return len(word) > len('--') and option.startswith(word)
+
+
+def is_word(argument: str) -> bool:
+    return argument == '-' or not argument.startswith('-')
+
+
+def behind_last_word(arguments: Sequence[str]) -> int:
+    """The index behind the last argument that is neither an option nor the prices that one takes; behind all where there is none."""
+    at = len(arguments)
+    while at and (not is_word(arguments[at - 1]) or at > 1 and short_for('--prices', arguments[at - 2])):
+        at -= 1
+    return at or len(arguments)
 
 
 def apart(words: Sequence[str]) -> tuple[list[str], list[str | None]]:
     """The words that are no sheets, and the sheets of the first rater and of the second."""
     others = [word for word in words if not word.startswith(MARK)]
+    if not 1 <= len(others) <= 4:
+        raise WrongUsage(f'compare takes FILE [FILE] [A B], not {len(others)} words')
     sheets: list[str | None] = [None, None]
     count = 0
     for word in words:

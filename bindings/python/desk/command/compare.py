@@ -68,8 +68,6 @@ def sentence_of(verdict: Verdict, names: Sequence[str], shares: bool) -> str:
 
 def chosen(words: Sequence[str], sheets: Sequence[str | None]) -> tuple[list[Rater], list[Question]]:
     """The two raters that the words name, whose tables load accepts, and what their files should be asked. Sheets of changes are read too."""
-    if not 1 <= len(words) <= 4:
-        raise WrongUsage(f'compare takes FILE [FILE] [A B], not {len(words)} words')
     files, names = (words[:1], words[1:]) if len(words) in (1, 3) else (words[:2], words[2:])
     see_once([*files, *filter(None, sheets)])
     sources = [read_source(file) for file in files]

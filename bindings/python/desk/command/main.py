@@ -259,7 +259,7 @@ def tell(outcome: Outcome, as_json: bool) -> int:
 def run(arguments: list[str]) -> int:
     """Answers one command line."""
     try:
-        asked = command_line().parse_args(marked(arguments) if arguments[:1] == ['compare'] else arguments)
+        asked = command_line().parse_args(arguments[:1] + marked(arguments[1:]) if arguments[:1] == ['compare'] else arguments)
     except SystemExit:  # after --help or --version
         return ANSWERED
     try:
