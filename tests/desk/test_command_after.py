@@ -16,7 +16,7 @@ sys.path.insert(0, os.path.dirname(os.path.abspath(__file__)))
 from running import Case, ask, book_of, content_of, example, run  # noqa: E402
 from common import in_order  # noqa: E402
 from definitions import totals  # noqa: E402
-from expected import compare_data, ranges_data, rater_data, verdict_of  # noqa: E402
+from expected import compare_data, ranges_data, verdict_of  # noqa: E402
 from scales import AGENCY, INHOUSE, Scale, by  # noqa: E402
 from sheets import HEADER, Change, after, random_sheet, sheet_text  # noqa: E402
 from shapes import Shapes  # noqa: E402
@@ -142,10 +142,15 @@ class AtRandom(Comparing):
         changes = random_sheet(source, rater.grades)
         return Side(rater, self.put(f'{name}.sheet', sheet_text(changes)), changes)
 
+    def sides(self, source: random.Random) -> list[Side]:
+        """Two raters of the same obligors, each with a sheet."""
+        scales = pair(source, (source.randint(3, 30), source.randint(30, 200)), 6)
+        return [self.side(source, scale, name) for scale, name in zip(scales, 'ab')]
+
     def test_on_shares_of_any_two_tables(self) -> None:
         source, seen = random.Random(3), Counter()
         while sum(seen.values()) < 60:
-            first, second = (self.side(source, scale, name) for scale, name in zip(pair(source, (source.randint(3, 30), source.randint(30, 200)), 6), 'ab'))
+            first, second = self.sides(source)
             if all(min(totals(scale.grades)[1:]) for side in (first, second) for scale in (side[0], side.now())):
                 data = self.compared(first, second, '--shares')
                 seen[data['before']['verdict'] != data['verdict']] += 1
@@ -156,7 +161,7 @@ class AtRandom(Comparing):
         """Survivors that change their grade leave the totals."""
         source, count = random.Random(4), 0
         while count < 60:
-            first, second = (self.side(source, scale, name) for scale, name in zip(pair(source, (source.randint(3, 30), source.randint(30, 200)), 6), 'ab'))
+            first, second = self.sides(source)
             changes = [Change(event, source.randint(1, len(first[0].rows)), 2) for event in ('enters', 'leaves')]
             if after(first[0].grades, changes)[1]:
                 continue
@@ -182,7 +187,8 @@ class Refused(Comparing):
                       'With --shares', line)
 
     def test_totals_that_differed_before_it(self) -> None:
-        first, second = (self.put(f'{name}.book', book_of([('obligors', rows)])) for name, rows in (('a', [(4, 0, 0), (4, 2, 5)]), ('b', [(8, 1, 0)])))
+        tables = {'a': [(4, 0, 0), (4, 2, 5)], 'b': [(8, 1, 0)]}
+        first, second = (self.put(f'{name}.book', book_of([('obligors', rows)])) for name, rows in tables.items())
         sheet = self.put('s.csv', HEADER + 'defaults,1\n')
         data = self.answered('compare', first, second, '--after', sheet, '--json').data()
         self.assertEqual((data['verdict'], data['before']['verdict'], data['before']['ranges']), ('first', None, []))

@@ -99,8 +99,8 @@ class Numbers(Converting):
         full = self.put('full.book', book_of([('obligors', [(1_000_000, 1_000_000, 0)])]))
         for number, change in FROM_A_SHEET.items():
             sheet = self.put('sheet.csv', f'event,grade\n{change}\n')
-            for words in (('update', full, sheet), ('update', full, '1', sheet, '-o', self.path('out.csv')), ('compare', full, '--after', sheet, full),
-                          ('compare', full, full, '1', '1', '--after', sheet, '--shares')):
+            for words in (('update', full, sheet), ('update', full, '1', sheet, '-o', self.path('out.csv')),
+                          ('compare', full, '--after', sheet, full), ('compare', full, full, '1', '1', '--after', sheet, '--shares')):
                 self.seen(number, *words)
 
     def test_of_measures(self) -> None:

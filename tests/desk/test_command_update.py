@@ -282,7 +282,7 @@ class Sheets(Updating):
 
     def test_grades(self) -> None:
         for cell, words in (('', 'an empty cell; expected a grade by number or name'), ('a1', "'a1' is no grade of In-house. It has 1 (A1), 2 (A2)"),
-                            ('E1', '7 (D1), 8 (D2)'), ('1.0', 'is no grade'), ('-1', 'is no grade'), ('A1 A2', 'is no grade'), ('\u0661', 'is no grade')):
+                            ('E1', '7 (D1), 8 (D2)'), *((word, 'is no grade of In-house') for word in ('1.0', '-1', 'A1 A2', '\u0661'))):
             self.not_taken(f'{HEADER}enters,{cell},1\n', 'line 2, column 2 (grade)', words)
         for cell in ('9', '0', '00', '9' * 18):
             self.refused(36, 'update', INHOUSE.file, self.put('s.csv', f'{HEADER}enters,{cell},1\n'))
@@ -291,8 +291,8 @@ class Sheets(Updating):
         self.not_taken('event,grade number\nenters,A1\n', "'A1' is no grade")
 
     def test_headers(self) -> None:
-        for header, words in (('grade,times', "names 'grade', 'times', and no column event. Expected a header such as event,grade,times"),
-                              ('event,times', 'and no column grade'), ('obligors,defaults,announced', 'and no column event and no column grade'),
+        for header, words in (('grade,times', "names 'grade', 'times', and no event. Expected a header such as event,grade,times"),
+                              ('event,times', 'and no grade'), ('obligors,defaults,announced', 'and no event and no grade'),
                               ('event,grade,grade number', 'the header names grade in column 2 already'),
                               ('event,event,grade', 'the header names event in column 1 already'),
                               ('event,grade,times,times', 'the header names times in column 3 already'),
@@ -314,7 +314,7 @@ class Sheets(Updating):
         for content in (b'', b'\n', b'\xef\xbb\xbf', b' , \n'):
             self.not_taken(content, 'no change is in it. Expected a header such as event,grade,times')
         self.not_taken(content_of(example('k.book')), 'this is a book, not a sheet of changes')
-        self.not_taken(content_of(example('agency.csv')), 'line 1', 'and no column event')
+        self.not_taken(content_of(example('agency.csv')), 'line 1', 'and no event')
         self.not_taken(b'event,grade\n\xff\n', 'line 2: this is not UTF-8 text')
         self.not_taken(HEADER + 'enters,A1\n' * 10_000, 'line 10001: more than 10000 lines', 'Leave out what is no change')
         self.not_taken(HEADER + 'x' * 100_001, 'more than 100000 characters')
@@ -438,7 +438,8 @@ class Written(Updating):
         self.assertEqual(self.names(), ['OUT.BOOK', 'out.CSV', 'out.book'])
 
     def test_by_the_raters_name(self) -> None:
-        data = self.answered('update', example('committee.csv'), 'In-house', example('monday/numbers.csv'), '-o', self.path('out.csv'), '--json').data()
+        words = (example('committee.csv'), 'In-house', example('monday/numbers.csv'), '-o', self.path('out.csv'))
+        data = self.answered('update', *words, '--json').data()
         self.assertEqual((data['after']['rater'], data['after']['name']), (4, 'In-house'))
         names = re.findall(rb'(?m)^name,(.*)$', self.got('out.csv'))
         self.assertEqual(names, re.findall(rb'(?m)^name,(.*)$', content_of(example('committee.csv'))))

@@ -47,25 +47,19 @@ def booked(rater: Rater, file: str, library: str) -> Booked:
     before = Desk(library)
     before.load(1, table)
     changes, problems = read_changes(file, rater)
-    after, refused = before, [in_order(problem) for problem in problems.all()]
+    after = before
     for change in changes:
         tried = after.copy()
         problem = first_refusal(tried, change, rater)
         if problem is None:
             after = tried
-            continue
-        refused.append(in_order(problem))
-        problems.add(problem._replace(why=problem.why + (LEFT_OUT if min(refused) < refused[-1] else '')))
-    if refused:
-        raise NotTaken([of_problem(file, problem) for problem in sorted(problems.all(), key=in_order)])
+        else:
+            problems.add(problem._replace(why=problem.why + (LEFT_OUT if problems.any_before(change.line) else '')))
+    if problems.all():
+        raise NotTaken([of_problem(file, problem) for problem in problems.by_line()])
     events = counted(sum(change.times for change in changes), 'event')
     changed = rater._replace(rows=rows_by(rater.counts, after.table(1)), after=f'{events} of {file}')
     return Booked(file, changes, State(rater, before), State(changed, after))
-
-
-def in_order(problem: Problem) -> tuple[bool, int]:
-    """Where a problem stands: by its line, behind all others without one."""
-    return problem.line is None, problem.line or 0
 
 
 def first_refusal(desk: Desk, change: Change, rater: Rater) -> Problem | None:

@@ -80,11 +80,11 @@ class SheetReader(FilledLines):
         self.changes = [] if any(problem.line == header.line for problem in self.problems.all()) else reader.changes
 
 
-def missing(line: int, cells: list[str], names: list[str | None]) -> Iterator[Problem]:
-    needed = [name for name in ('event', 'grade') if name not in names]
+def missing(line: int, cells: list[str], columns: list[str | None]) -> Iterator[Problem]:
+    needed = [name for name in ('event', 'grade') if name not in columns]
     if needed:
-        yield Problem(line, None, None, f'the header names {some_of([cited(cell) for cell in cells])}, and no column {" and no column ".join(needed)}. '
-                                        f'Expected a header such as {EXAMPLE}')
+        names = some_of([cited(cell) for cell in cells])
+        yield Problem(line, None, None, f'the header names {names}, and no {" and no ".join(needed)}. Expected a header such as {EXAMPLE}')
 
 
 class ChangeReader(LineReader):

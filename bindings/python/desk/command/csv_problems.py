@@ -13,7 +13,7 @@ class Problem(NamedTuple):
     column: int | None  # counted from 1, as it stands in the file
     name: str | None  # of the column, where it has one: 'obligors', 'survivors', 'defaults', 'announced'
     why: str
-    number: int | None = None  # document 01's refusal number, where load would refuse such a book too
+    number: int | None = None  # the refusal number, where load refuses such a book too, or the call that books a change
 
 
 class Problems:
@@ -28,6 +28,13 @@ class Problems:
             self._kept.append(problem)
         else:
             self._more += 1
+
+    def any_before(self, line: int) -> bool:
+        return any(problem.line is not None and problem.line < line for problem in self._kept)
+
+    def by_line(self) -> list[Problem]:
+        """All of them in the order of their lines, where they were not found in it; what has no line stands last."""
+        return sorted(self.all(), key=lambda problem: (problem.line is None, problem.line))
 
     def all(self) -> list[Problem]:
         if not self._more:

@@ -38,12 +38,15 @@ examples:
   desk shortlist portfolio.book                   the raters that no other one beats
   desk show portfolio.book                        all raters at a glance
   desk show portfolio.book 3                      one rater in full
+  desk update inhouse.csv monday.csv -o new.csv   firms that enter, leave, default or are removed, booked
+  desk compare inhouse.csv --after monday.csv agency.csv --shares
   desk pack inhouse.csv agency.csv -o both.book   CSV to a book
   desk unpack both.book                           and back
 
 A CSV table has a header and a line for each grade, best grade first. The header names the columns, in any order: either obligors
 (everybody in the grade, the defaulted included) or survivors (the defaulted left out), then defaults and announced (the announced
-default rate in ppm, which never falls from a line to the next).
+default rate in ppm, which never falls from a line to the next). A sheet of changes has the columns event (enters, leaves, defaults or
+removed), grade (its number or name) and times.
 
 exit status: 0 answered; 1 refused (with its number, see `desk refusals`); 2 wrong usage, or a file, disk or build that does
 not work.
@@ -96,17 +99,7 @@ def command_line() -> Parser:
                                    formatter_class=argparse.RawDescriptionHelpFormatter)
         made.add_argument('--json', action='store_true', help='answer as JSON (docs/COMMAND.md has its form)')
         return made
-    compare = command('compare', 'which of two scales is better', 'desk compare inhouse.csv agency.csv --prices 50:1')
-    compare.usage = 'desk compare [-h] [--json] [--shares] [--prices U:V] FILE [--after CHANGES.csv] [FILE [--after CHANGES.csv]] [A B]'
-    compare.add_argument('words', nargs='+', metavar='FILE [FILE] [A B]', help='one or two files, then the raters by number or name where '
-                                                                               'a file has several: A of the first file, B of the second')
-    compare.add_argument('--shares', action='store_true', help='compare scales of books of different sizes: costs go by shares of each '
-                                                               "book's own defaults missed and survivors turned away")
-    compare.add_argument('--prices', action='append', default=[], type=prices, metavar='U:V',
-                         help='also the cheapest cutoffs of both at these prices of a missed default and of a survivor turned away, with '
-                              '--shares of all defaults missed and of all survivors turned away; may be repeated')
-    compare.add_argument(OPTION, action='append', metavar='CHANGES.csv',
-                         help='behind a file, or behind A or B: compare its table as the changes of this sheet leave it, see desk update')
+    words_of_compare(command)
     shortlist = command('shortlist', 'the raters of a book that no other one beats, and who beats the others', 'desk shortlist portfolio.book')
     shortlist.add_argument('files', nargs='+', metavar='FILE', help='a book, or several files whose raters, in this order, are taken as one book')
     show = command('show', 'the grades, rates and measures of a rater, or all raters at a glance', 'desk show portfolio.book 3')
@@ -114,13 +107,7 @@ def command_line() -> Parser:
     show.add_argument('rater', nargs='?', metavar='RATER', help='its number or name; left out, all raters of a file that has several')
     show.add_argument('--repeated', action='store_true', help='for an empty grade also the pooled rate and band that pool repeats for it, '
                                                               'and of which grade they are')
-    update = command('update', "a rater's table after a sheet of changes: firms that enter, leave, default or are removed",
-                     'desk update inhouse.csv monday.csv -o tuesday.csv')
-    update.usage = 'desk update [-h] [--json] FILE [RATER] CHANGES.csv [-o OUT]'
-    update.add_argument('words', nargs='+', metavar='FILE [RATER] CHANGES.csv', help='the file with the table, the rater by number or name where it '
-                                                                                    'has several, and the sheet: event,grade,times')
-    update.add_argument('-o', dest='output', metavar='OUT', help='the file to write, a book or CSV as its name says: OUT.book or OUT.csv; left out, '
-                                                                 'what would change is shown alone')
+    words_of_update(command)
     pack = command('pack', 'CSV files to one book; each table is a rater, in the order given',
                    'desk pack inhouse.csv agency.csv -o both.book')
     pack.add_argument('files', nargs='+', metavar='FILE.csv')
@@ -134,6 +121,30 @@ def command_line() -> Parser:
     refusals.add_argument('number', nargs='?', type=refusal_number, metavar='NUMBER')
     command('build', 'prove and build the library and the printing program, where the sources have changed', 'desk build')
     return parser
+
+
+def words_of_compare(command: Callable[[str, str, str], Parser]) -> None:
+    compare = command('compare', 'which of two scales is better', 'desk compare inhouse.csv agency.csv --prices 50:1')
+    compare.usage = 'desk compare [-h] [--json] [--shares] [--prices U:V] FILE [--after CHANGES.csv] [FILE [--after CHANGES.csv]] [A B]'
+    compare.add_argument('words', nargs='+', metavar='FILE [FILE] [A B]', help='one or two files, then the raters by number or name where '
+                                                                               'a file has several: A of the first file, B of the second')
+    compare.add_argument('--shares', action='store_true', help='compare scales of books of different sizes: costs go by shares of each '
+                                                               "book's own defaults missed and survivors turned away")
+    compare.add_argument('--prices', action='append', default=[], type=prices, metavar='U:V',
+                         help='also the cheapest cutoffs of both at these prices of a missed default and of a survivor turned away, with '
+                              '--shares of all defaults missed and of all survivors turned away; may be repeated')
+    compare.add_argument(OPTION, action='append', metavar='CHANGES.csv',
+                         help='behind a file, or behind A or B: compare its table as the changes of this sheet leave it, see desk update')
+
+
+def words_of_update(command: Callable[[str, str, str], Parser]) -> None:
+    update = command('update', "a rater's table after a sheet of changes: firms that enter, leave, default or are removed",
+                     'desk update inhouse.csv monday.csv -o tuesday.csv')
+    update.usage = 'desk update [-h] [--json] FILE [RATER] CHANGES.csv [-o OUT]'
+    update.add_argument('words', nargs='+', metavar='FILE [RATER] CHANGES.csv', help='the file with the table, the rater by number or name where it '
+                                                                                    'has several, and the sheet: event,grade,times')
+    update.add_argument('-o', dest='output', metavar='OUT', help='the file to write, a book or CSV as its name says: OUT.book or OUT.csv; left out, '
+                                                                 'what would change is shown alone')
 
 
 def answer(asked: argparse.Namespace) -> Outcome:
