@@ -21,14 +21,16 @@ from desk.command.main import command_line  # noqa: E402
 FULL = os.strerror(errno.ENOSPC)
 ANSWERED = (('compare', example('h.book')), ('compare', example('lenders.book'), '1', '2', '--shares'), ('shortlist', example('committee.csv')),
             ('show', example('k.book')), ('show', example('portfolio.book')), ('unpack', example('k.book')), ('refusals',), ('refusals', '25'),
-            ('--help',), ('--version',), ('compare', '--help'))
+            ('update', example('inhouse.csv'), example('monday/inhouse.csv')), ('--help',), ('--version',), ('compare', '--help'))
 REFUSED = (('compare', example('refusals.book'), '1', '4'), ('compare', example('lenders.book'), '1', '3', '--shares'),
-           ('shortlist', example('lenders.book')), ('show', example('refusals.book'), '5'), ('unpack', example('refusals.book')))
+           ('shortlist', example('lenders.book')), ('show', example('refusals.book'), '5'), ('unpack', example('refusals.book')),
+           ('compare', example('inhouse.csv'), '--after', example('monday/inhouse.csv'), example('agency.csv')))
 PARTLY = (('show', example('refusals.book')), ('show', example('refusals.book'), '2'))  # something is refused, the rest answered
 WRONG = ((), ('compare',), ('shortlist',), ('turn', 'a'), ('show', example('none.book')), ('compare', example('k.book')), ('refusals', '14'),
          ('show', 'a', 'b', 'c'), ('pack', example('k.csv')), ('compare', example('h.book'), '--prices', 'x'),
-         ('show', example('k.book'), '--nothing'))
-COMMANDS = ('compare', 'shortlist', 'show', 'pack', 'unpack', 'report', 'refusals', 'build')
+         ('show', example('k.book'), '--nothing'), ('update', example('inhouse.csv')),
+         ('compare', example('h.book'), '--after', example('monday/numbers.csv')))
+COMMANDS = ('compare', 'shortlist', 'show', 'update', 'pack', 'unpack', 'report', 'refusals', 'build')
 
 
 class Status(Case):

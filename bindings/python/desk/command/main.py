@@ -78,7 +78,10 @@ class ShowVersion(argparse.Action):
 
 
 class Parser(argparse.ArgumentParser):
-    """A parser that prints as the rest of the command does."""
+    """A parser that prints as the rest of the command does, and knows which word a sheet of `compare` follows."""
+
+    def parse_args(self, args: list[str], namespace: argparse.Namespace | None = None) -> argparse.Namespace:
+        return super().parse_args(args[:1] + marked(args[1:]) if args[:1] == ['compare'] else args, namespace)
 
     def print_help(self, file: TextIO | None = None) -> None:
         put(self.format_help().rstrip('\n'))
@@ -270,7 +273,7 @@ def tell(outcome: Outcome, as_json: bool) -> int:
 def run(arguments: list[str]) -> int:
     """Answers one command line."""
     try:
-        asked = command_line().parse_args(arguments[:1] + marked(arguments[1:]) if arguments[:1] == ['compare'] else arguments)
+        asked = command_line().parse_args(arguments)
     except SystemExit:  # after --help or --version
         return ANSWERED
     try:
