@@ -19,7 +19,7 @@ from csv_dress import damaged  # noqa: E402
 from definitions import decimal, totals  # noqa: E402
 from expected import grades_data, rater_data  # noqa: E402
 from scales import AGENCY, INHOUSE, Scale, by, rater_of  # noqa: E402
-from sheets import HEADER, Change, Fault, after, random_change, random_sheet, sheet_text  # noqa: E402
+from sheets import CALLS, HEADER, Change, Fault, after, random_change, random_sheet, sheet_text  # noqa: E402
 from shapes import Shapes  # noqa: E402
 from test_command_damaged import rows_of  # noqa: E402
 import printed  # noqa: E402
@@ -76,8 +76,10 @@ class Updating(Case):
         return now
 
     def see_text(self, text: str, scale: Scale, now: Scale, data: dict) -> None:
-        (first, second), table, last = printed.sections(text)
+        (first, second, kinds), table, last = printed.sections(text)
         events = sum(each['times'] for each in data['changes']['events'])
+        counts = [sum(each['times'] for each in data['changes']['events'] if each['event'] == kind) for kind in CALLS]
+        self.assertEqual(kinds, 'Events: enters {}, leaves {}, defaults {}, removed {}.'.format(*counts))
         booked = f', after {events} event{"" if events == 1 else "s"} of {data["changes"]["file"]})'
         self.assertIn(booked, second)
         self.assertEqual((printed.summary(first), printed.summary(second.replace(booked, ')', 1))), (data['before'], data['after']))
@@ -436,6 +438,13 @@ class Written(Updating):
         for name in ('out', 'out.txt', 'csv', '.csv', 'out.csv.', '-'):
             self.assertIn('it has to end in .csv or .book', self.wrong('update', INHOUSE.file, MONDAY, '-o', self.path(name)))
         self.assertEqual(self.names(), ['OUT.BOOK', 'out.CSV', 'out.book'])
+
+    def test_more_raters_than_a_book_holds(self) -> None:
+        many, sheet = self.put('many.csv', csv_text([('obligors', [(9, 1, 0)])] * 17)), self.put('s.csv', HEADER + 'enters,1\n')
+        self.refused(3, 'update', many, '17', sheet, '-o', self.path('out.book'))
+        self.answered('update', many, '17', sheet, '-o', self.path('out.csv'))
+        self.assertEqual(self.got('out.csv').decode(), csv_text([('obligors', [(9, 1, 0)])] * 16 + [('obligors', [(10, 1, 0)])]))
+        self.assertEqual(self.names(), ['many.csv', 'out.csv', 's.csv'])
 
     def test_by_the_raters_name(self) -> None:
         words = (example('committee.csv'), 'In-house', example('monday/numbers.csv'), '-o', self.path('out.csv'))

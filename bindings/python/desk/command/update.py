@@ -8,9 +8,10 @@ import os
 from ..table import Table
 from . import questions
 from .booking import Booked, booked
+from .changes import EVENTS, Change
 from .convert import BOOK, CSV, content_of
 from .files import see_apart, see_once, write_whole
-from .inputs import Rater, Source, accepted, read_source
+from .inputs import Rater, Source, accepted, read_source, too_many
 from .layout import columns, counted, percent, plain
 from .outcome import Outcome, WrongUsage
 from .show import ABOUT_BANDS, GRADE_HEADING, GRADE_SIDES, NO_RATES, empty_grades, summary, summary_data
@@ -30,7 +31,7 @@ def update(words: Sequence[str], output: str | None, library: str) -> Outcome:
     ending = '' if output is None else ending_of(output)
     source = read_source(file)
     rater = chosen(source, named)
-    accepted([rater] if output is None else source.raters)
+    accepted([rater] if output is None else source.raters, too_many(source.raters) if ending == BOOK else [])
     found = booked(rater, sheet, library)
     raters = [found.after.rater if each is rater else each for each in source.raters]
     if output is not None:
@@ -66,8 +67,14 @@ def page(found: Booked) -> list[str]:
     rows = [moved(was.cells(), now.cells()) for was, now in zip(before, after)]
     tables = [state.table for state in (found.before, found.after)]
     about_empty = [f'{NO_RATES}.'] if any(map(empty_grades, tables)) else []
-    return [summary(found.before.rater, tables[0]), summary(found.after.rater, tables[1]), '',
+    return [summary(found.before.rater, tables[0]), summary(found.after.rater, tables[1]), events_in(found.changes), '',
             *columns([GRADE_HEADING, *rows, moved(*map(totals, tables))], GRADE_SIDES), ABOUT_ARROWS, ABOUT_BANDS, *about_empty, '']
+
+
+def events_in(changes: Sequence[Change]) -> str:
+    """How many events of each kind."""
+    counts = {event: sum(change.times for change in changes if change.event == event) for event in EVENTS}
+    return f'Events: {", ".join(f"{event} {count}" for event, count in counts.items())}.'
 
 
 def moved(before: Sequence[str], after: Sequence[str]) -> list[str]:
