@@ -502,6 +502,9 @@ class Usage(Updating):
         percent_table = 'obligors,defaults,announced\n10,1,10%\n10,3,30%\n'
         data = self.answered('update', self.put('t.csv', percent_table), self.put('s.csv', HEADER + 'enters,1\n'), '--json').data()
         self.assertEqual([question['about'] for question in data['questions']], ['reading'])
+        scale, sheet = self.table([(60, 1, 20000), (40, 3, 80000), (99, 4, 90000)]), self.put('s.csv', HEADER + 'enters,3\n')
+        asked = self.answered('update', scale.file, sheet, '--json').data()['questions']  # of the table as it then is
+        self.assertEqual([(each['about'], 'a after 1 event of ' in each['text']) for each in asked], [('total', True)])
 
     def test_as_a_process(self) -> None:
         self.assertEqual(run('update', INHOUSE.file, MONDAY), self.answered('update', INHOUSE.file, MONDAY))
