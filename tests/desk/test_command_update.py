@@ -274,7 +274,7 @@ class Sheets(Updating):
                             ('+2', 'write 2'), ('\u0663', 'write 3'), ('10%', 'not a share'), ('=1+1', 'formula'), ('9' * 19, 'at most 18')):
             self.not_taken(f'{HEADER}enters,A1,{cell}\n', where, words)
         self.not_taken(f'{HEADER}enters,A1,1,000\n', where, 'write 1000')
-        self.taken(f'{HEADER}enters,1,234\nenters,1\n', [Change('enters', 1, 234), Change('enters', 1)])  # no grade is 1,234
+        self.taken('event,grade,times,remark\nenters,1,234,5\nenters,1\n', [Change('enters', 1, 234), Change('enters', 1)])  # no grade is 1,234
         self.not_taken('event,grade,times,remark\nenters,A1,1,000\nenters,A1\n', where, "'1,000' may be one number or two cells")
 
     def test_events(self) -> None:
