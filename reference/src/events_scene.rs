@@ -39,6 +39,10 @@ impl Generator {
         let course = self.next_course();
         let place = self.random.pick(&[1, 2]);
         self.empty(place);
+        if self.random.chance(15) {
+            self.empty(3 - place);
+            self.events_nowhere();
+        }
         let table = course.table(&mut self.random);
         let draft = Draft::around(&mut self.random, &table);
         self.load(place, draft.clone());
@@ -141,6 +145,14 @@ impl Generator {
             false => mostly_accepted(&mut self.random, &table),
         };
         self.event(at, place);
+    }
+
+    /// Events on an empty desk: at a place that there is not, then at one of the two.
+    fn events_nowhere(&mut self) {
+        let no_place = self.random.pick(&[0, 3, u32::MAX]);
+        for place in [no_place, self.random.pick(&[1, 2])] {
+            self.any_event(place);
+        }
     }
 
     /// The next of the events that every table refuses, or that are of no table.
@@ -546,9 +558,11 @@ impl Generator {
     }
 }
 
-/// Any event at a grade of the table.
+/// Any event at a grade of the table, the best and the worst one more often than others.
 fn any_inside(random: &mut Random, table: &Table) -> At {
-    let grade = random.between(1, table.grades.len() as u64) as u32;
+    let grades = table.grades.len() as u32;
+    let any = random.between(1, grades.into()) as u32;
+    let grade = random.weighted(&[(1, 1), (1, grades), (8, any)]);
     (random.pick(&EVERY_EVENT), grade)
 }
 

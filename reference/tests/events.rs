@@ -186,6 +186,7 @@ fn places_are_tried_before_grades() {
         }
     }
     assert_eq!(Desk::fresh().event(SurvivorEnters, 1, 1), Err(22));
+    assert_eq!(Desk::fresh().event(SurvivorEnters, 3, 1), Err(1));
 }
 
 #[test]
@@ -243,6 +244,21 @@ fn pool_follows_the_events() {
     assert_eq!(pooled(&desk), [3, 3, 14, 3, 3, 14, 3, 3, 14]);
 }
 
+fn questions() -> Vec<Call> {
+    let length = 120;
+    let mut questions = vec![Call::Compare, Call::CompareShares];
+    for place in [1, 2] {
+        questions.extend([
+            Call::Pool { place, length },
+            Call::Cheapest { place, u: 3, v: 1 },
+            Call::Measures { place },
+            Call::Brier { place },
+            Call::Spread { place },
+        ]);
+    }
+    questions
+}
+
 /// Every question about a table that events have made is answered as about the same table loaded.
 #[test]
 fn a_table_made_by_events_is_a_table_loaded() {
@@ -259,7 +275,7 @@ fn a_table_made_by_events_is_a_table_loaded() {
                 assert_eq!(desk, before);
             }
         }
-        let tables = [1, 2].map(|place| desk.table(place).expect("loaded"));
+        let tables = [1, 2].map(|place| desk.table(place).cloned().expect("loaded"));
         let mut loaded = Desk::fresh();
         let mut bytes = [0; 2_000];
         let length = desk.write(&mut bytes).expect("long enough");
@@ -267,7 +283,11 @@ fn a_table_made_by_events_is_a_table_loaded() {
             assert_eq!(loaded.load(place, place, &bytes[..length]), Ok(()));
         }
         assert_eq!(loaded, desk, "{seed}");
-        assert_eq!(bytes[..length], book::write(&tables));
+        for question in questions() {
+            let [made, read] = [&mut desk, &mut loaded].map(|desk| desk.call(&question));
+            assert_eq!(made, read, "{seed}: {question}");
+        }
+        assert_eq!(bytes[..length], book::write(&tables.each_ref()));
     }
 }
 
