@@ -116,31 +116,25 @@ fn farthest(place: &[u32], defaulted: u32, survivors: Survivors) -> FarthestCuto
 {
     let grades = grades_of(place);
     let mut i = grades;
-    let mut caught: u32 = 0;
-    let mut lost = Survivors(0);
-    // The best grade that the farthest cutoff turns away.
-    let mut top = grades;
+    // The ROC curve and the diagonal at a cutoff, times D S.
+    let mut curve: u64 = 0;
+    let mut diagonal: u64 = 0;
+    let mut cutoff: u32 = 0;
     let mut height: i64 = 0;
     let mut distance: u64 = 0;
     while 0 < i {
         i -= 1;
         let d = place[DEFAULTS + i];
-        caught += d;
-        lost = lost.plus(obligors_at(place, i).survivors(d));
-        // The ROC curve and the diagonal at this cutoff, times D S.
-        let curve = pairs_of(caught, survivors);
-        let diagonal = pairs_of(defaulted, lost);
+        curve += pairs_of(d, survivors);
+        diagonal += pairs_of(defaulted, obligors_at(place, i).survivors(d));
         let here = apart(curve, diagonal);
         if distance < here {
             distance = here;
             height = difference(curve, diagonal);
-            top = i;
+            cutoff = (grades - i) as u32;
         }
     }
-    FarthestCutoff {
-        cutoff: (grades - top) as u32,
-        height,
-    }
+    FarthestCutoff { cutoff, height }
 }
 
 // The measures of the table in a lent place. Without a default or a survivor a denominator is 0.

@@ -1,6 +1,6 @@
 -- `farthest` meets its contract. The invariant: at grade i the cutoffs that turn away no better grade have been tried.
 use Prim.Native.Nat.{ℕ, suc, _+_, _-_, _*_, _≤_, _<_}
-use mathlib.Core.Path.{_≡_, ap, _∙_}
+use mathlib.Core.Path.{_≡_, sym, ap, _∙_}
 use mathlib.Core.List.{List}
 use native.Mathlib.Nat.{sub-self, zero-mul}
 use native.Mathlib.Omega.{arith}
@@ -14,12 +14,12 @@ use mir.Val.{toZ, ofZ}
 use mir.ValLaws.{toZ-ofZ}
 use Rattle.table.specs.declared.Place.{Place}
 use Rattle.table.specs.declared.Survivors.{Survivors}
-use Rattle.table.specs.Table.{Table, Sound, survivors, defaultsIn, survivorsIn, obligorsIn}
+use Rattle.table.specs.Table.{Table, Sound, survivors, defaultsIn, survivorsIn}
 use Rattle.table.specs.Place.{gradeAt, tableOf}
 use Rattle.table.specs.Words.{placeIn}
 use Rattle.table.proofs.Arithmetic.{counts-le}
 use Rattle.table.proofs.Suffix.{suffix, suffix-end, length-grades, small, sound-small, few-counts}
-use Rattle.table.proofs.Words.{Turn, turn, few-in}
+use Rattle.table.proofs.Words.{Turn, turn}
 use Rattle.cutoff.specs.Best.{best}
 use Rattle.measures.specs.Measures.{height, farther}
 use Rattle.measures.specs.Private.{farthestOf}
@@ -32,49 +32,67 @@ use Rattle.measures.proofs.farthest.Tie as tie
 abbrev bestFrom : Place → ℕ → ℕ
 bestFrom p i = best farther (height (tableOf p)) (p .grades - i)
 
--- g is the best grade that the cutoff turns away, h its height in 64 bits, which `toZ` reads, and far the absolute size of that.
-record Tried (p : Place) (i y : ℕ) (x : Survivors) (g h far : ℕ) : Type 0 where
+-- a and b are the curve and the diagonal times D S, h is a height in 64 bits, which `toZ` reads, and far its absolute size.
+record Tried (p : Place) (i a b g h far : ℕ) : Type 0 where
   pub inside : i ≤ p .grades
-  pub caught : y ≡ defaultsIn (suffix p i)
-  pub lost : x .0 ≡ survivorsIn (suffix p i)
-  pub grade : g ≤ p .grades
-  pub cutoff : p .grades - g ≡ bestFrom p i
+  pub curve : a ≡ defaultsIn (suffix p i) * survivorsIn (tableOf p)
+  pub diagonal : b ≡ survivorsIn (suffix p i) * defaultsIn (tableOf p)
+  pub cutoff : g ≡ bestFrom p i
   pub high : toZ w64 h ≡ height (tableOf p) (bestFrom p i)
   pub distance : far ≡ natAbs (height (tableOf p) (bestFrom p i))
 
--- What a turn knows of the cutoff that it tries: a is y S and b is x D.
-record Next (p : Place) (i y : ℕ) (x : Survivors) (a b : ℕ) : Type 0 where
+-- The next cutoff turns grade i - 1 away too.
+module _ {w : List ℕ} {i a b g h far : ℕ} (sound : Sound (tableOf (placeIn w))) (f : Turn w i) (t : Tried (placeIn w) i a b g h far) where
+  abbrev p : Place
+  p = placeIn w
+
+  inside : i - 1 ≤ p .grades
+  inside = omega (arith, t .inside)
+
+  more-curve : {s : Survivors} {m : ℕ} → s .0 ≡ survivorsIn (tableOf p) → m ≡ getD w (40 + (i - 1)) 0 * s .0
+      → a + m ≡ defaultsIn (suffix p (i - 1)) * survivorsIn (tableOf p)
+  unfolding defaultsIn
+  more-curve {s} {m} all e =
+      let n : m ≡ gradeAt p (i - 1) .defaults * survivorsIn (tableOf p) = rw (← f .defaults, ← all) e in
+      rw (f .down) (omega (arith, t .curve, n))
+
+  more-diagonal : {d n m : ℕ} → d ≡ defaultsIn (tableOf p) → n ≡ survivors (gradeAt p (i - 1)) → m ≡ d * n
+      → b + m ≡ survivorsIn (suffix p (i - 1)) * defaultsIn (tableOf p)
+  unfolding survivorsIn
+  more-diagonal {d} {n} {m} all e k =
+      let l : m ≡ defaultsIn (tableOf p) * survivors (gradeAt p (i - 1)) = rw (← all, ← e) k in
+      rw (f .down) (omega (arith, t .diagonal, l))
+
+  few-curve : {a′ : ℕ} → a′ ≡ defaultsIn (suffix p (i - 1)) * survivorsIn (tableOf p) → a′ ≤ 1_000_000_000_000
+  few-curve e = rw e (counts-le (few-counts (small p (i - 1) sound inside) .0) (few-counts (sound-small sound) .1))
+
+  few-diagonal : {b′ : ℕ} → b′ ≡ survivorsIn (suffix p (i - 1)) * defaultsIn (tableOf p) → b′ ≤ 1_000_000_000_000
+  few-diagonal e = rw e (counts-le (few-counts (small p (i - 1) sound inside) .1) (few-counts (sound-small sound) .0))
+
+-- What a turn knows of the cutoff that it tries.
+record Next (p : Place) (i a b : ℕ) : Type 0 where
   pub inside : i - 1 ≤ p .grades
   pub number : p .grades - (i - 1) ≡ suc (p .grades - i)
-  pub caught : y ≡ defaultsIn (suffix p (i - 1))
-  pub lost : x .0 ≡ survivorsIn (suffix p (i - 1))
+  pub curve : a ≡ defaultsIn (suffix p (i - 1)) * survivorsIn (tableOf p)
+  pub diagonal : b ≡ survivorsIn (suffix p (i - 1)) * defaultsIn (tableOf p)
   pub small-a : a ≤ 1_000_000_000_000
   pub small-b : b ≤ 1_000_000_000_000
   pub here : subℕ a b ≡ height (tableOf p) (p .grades - (i - 1))
 
-next : {w : List ℕ} {i y g h far d n a b : ℕ} {x x′ s : Survivors} →
+next : {w : List ℕ} {i a b a′ b′ g h far : ℕ} → Sound (tableOf (placeIn w)) → 0 < i → (f : Turn w i) (t : Tried (placeIn w) i a b g h far)
+    → a′ ≡ defaultsIn (suffix (placeIn w) (i - 1)) * survivorsIn (tableOf (placeIn w))
+    → b′ ≡ survivorsIn (suffix (placeIn w) (i - 1)) * defaultsIn (tableOf (placeIn w)) → Next (placeIn w) i a′ b′
+next {w} {i} sound up f t ofA ofB =
     let p = placeIn w in
-    Sound (tableOf p) → (d ≡ defaultsIn (tableOf p)) × (s .0 ≡ survivorsIn (tableOf p)) → 0 < i → Turn w i → Tried p i y x g h far
-    → n ≡ survivors (gradeAt p (i - 1)) → x′ .0 ≡ x .0 + n → a ≡ (y + getD w (40 + (i - 1)) 0) * s .0 → b ≡ d * x′ .0
-    → Next p i (y + getD w (40 + (i - 1)) 0) x′ a b
-unfolding defaultsIn survivorsIn
-next {w} {i} {y} {g} {h} {far} {d} {n} {a} {b} {x} {x′} {s} sound totals up f kept ofN ofX ofA ofB =
-    let p = placeIn w in
-    let inside : i - 1 ≤ p .grades = omega (arith, kept .inside) in
-    let caught : y + getD w (40 + (i - 1)) 0 ≡ defaultsIn (suffix p (i - 1)) = rw (f .down) (omega (arith, kept .caught)) in
-    let lost : x′ .0 ≡ survivorsIn (suffix p (i - 1)) = rw (f .down) (omega (arith, kept .lost)) in
-    let of-a : a ≡ defaultsIn (suffix p (i - 1)) * survivorsIn (tableOf p) = rw (← caught, ← totals .1) ofA in
-    let of-b : b ≡ survivorsIn (suffix p (i - 1)) * defaultsIn (tableOf p) = rw (← lost, ← totals .0) (omega (arith, ofB)) in
-    let part = few-counts (small p (i - 1) sound inside) in
-    let all = few-counts (sound-small sound) in
+    let near : i - 1 ≤ p .grades = omega (arith, t .inside) in
     record {
-      inside = inside;
-      number = omega (arith, kept .inside);
-      caught = caught;
-      lost = lost;
-      small-a = rw of-a (counts-le (part .0) (all .1));
-      small-b = rw of-b (counts-le (part .1) (all .0));
-      here = rw (turned-suffix p (i - 1) inside, of-a, of-b);
+      inside = near;
+      number = omega (arith, t .inside);
+      curve = ofA;
+      diagonal = ofB;
+      small-a = few-curve sound f t ofA;
+      small-b = few-diagonal sound f t ofB;
+      here = rw (turned-suffix p (i - 1) near, ofA, ofB);
     }
 
 -- The cutoff tried is the best so far, or the one kept is.
@@ -87,39 +105,30 @@ module _ (f : ℕ → ℤ) {k k′ kept here : ℕ} (s : k′ ≡ suc k) (p : ke
   unfolding best
   best-kept h = rw (s, ← p, ← rw s at q, le-ltb kept here h)
 
-module _ {p : Place} {i y y₀ a b g h far here : ℕ} {x x₀ : Survivors}
-    (n : Next p i y x a b) (t : Tried p i y₀ x₀ g h far) (e : here ≡ natAbs (subℕ a b)) where
+module _ {p : Place} {i a b a₀ b₀ g h far here : ℕ} (n : Next p i a b) (t : Tried p i a₀ b₀ g h far) (e : here ≡ natAbs (subℕ a b)) where
   size : here ≡ natAbs (height (tableOf p) (p .grades - (i - 1)))
   size = rw (← n .here) e
 
-  taken : far < here → (z : ℤ) → z ≡ subℕ a b → Tried p (i - 1) y x (i - 1) (ofZ w64 z) here
+  taken : far < here → (z : ℤ) → z ≡ subℕ a b → Tried p (i - 1) a b (p .grades - (i - 1)) (ofZ w64 z) here
   taken test z is =
       let it = best-new (height (tableOf p)) (n .number) (t .distance) size test in
       let signed = toZ-ofZ w64 z (rw is (difference-fits (n .small-a) (n .small-b))) ∙ is ∙ n .here in
-      record { inside = n .inside; caught = n .caught; lost = n .lost; grade = n .inside; cutoff = rw it; high = rw it signed; distance = rw it size }
+      record { inside = n .inside; curve = n .curve; diagonal = n .diagonal; cutoff = rw it; high = rw it signed; distance = rw it size }
 
-  left : here ≤ far → Tried p (i - 1) y x g h far
+  left : here ≤ far → Tried p (i - 1) a b g h far
   left test =
       let it = best-kept (height (tableOf p)) (n .number) (t .distance) size test in
-      record {
-        inside = n .inside;
-        caught = n .caught;
-        lost = n .lost;
-        grade = t .grade;
-        cutoff = rw it (t .cutoff);
-        high = rw it (t .high);
-        distance = rw it (t .distance);
-      }
+      record { inside = n .inside; curve = n .curve; diagonal = n .diagonal; cutoff = rw it (t .cutoff); high = rw it (t .high); distance = rw it (t .distance) }
 
 none : (t : Table) → pos 0 ≡ height t 0
 unfolding defaultsIn survivorsIn
 none t = rw (turned-none t, zero-mul (survivorsIn t), zero-mul (defaultsIn t))
 
 abbrev Inv-loop : tie.InvT-loop
-Inv-loop place d s grades i₀ y₀ x₀ g₀ h₀ far₀ i y x g h far = Tried (placeIn place) i y x g h far
+Inv-loop place d s grades i₀ a₀ b₀ g₀ h₀ far₀ i a b g h far = Tried (placeIn place) i a b g h far
 
 abbrev μ-loop : tie.MeasureT-loop
-μ-loop place d s grades i₀ y₀ x₀ g₀ h₀ far₀ i y x g h far = i
+μ-loop place d s grades i₀ a₀ b₀ g₀ h₀ far₀ i a b g h far = i
 
 loop-holds : tie.Need-loop-holds Inv-loop μ-loop
 unfolding defaultsIn survivorsIn best
@@ -129,9 +138,8 @@ loop-holds c =
     rw (c .grades-of .ensures)
     (record {
       inside = omega arith;
-      caught = rw end;
-      lost = rw end;
-      grade = omega arith;
+      curve = rw end (sym (zero-mul (survivorsIn (tableOf p))));
+      diagonal = rw end (sym (zero-mul (defaultsIn (tableOf p))));
       cutoff = rw sub-self;
       high = rw sub-self (none (tableOf p));
       distance = rw sub-self (ap natAbs (none (tableOf p)));
@@ -140,26 +148,48 @@ loop-holds c =
 at : (c : tie.In-loop Inv-loop μ-loop) → Turn (now (c .before .before .before .before .args .place)) (c .before .loop .i)
 at c = turn _ _ (c .before .before .before .before .pre .0) (c .loop-test .taken) (c .before .loop .inv .inside)
 
-add-caught : tie.Need-add-caught Inv-loop μ-loop
-unfolding defaultsIn obligorsIn
-add-caught c = let f = at (c .before) in omega arith
+-- the turn of a step in it
+abbrev begun : tie.After-pairs-of Inv-loop μ-loop → tie.In-loop Inv-loop μ-loop
+begun c = c .before .before
 
-plus-requires : tie.Need-plus-requires Inv-loop μ-loop
-unfolding survivorsIn obligorsIn
-plus-requires c κs = let f = at (c .before .before .before) in omega (arith, c .survivors .ensures, c .before .obligors-at .ensures)
+abbrev begun2 : tie.After-pairs-of2 Inv-loop μ-loop → tie.In-loop Inv-loop μ-loop
+begun2 c = begun (c .before .before .before)
+
+curve-is : (c : tie.After-pairs-of Inv-loop μ-loop) →
+    let l = begun c .before in
+    let p = placeIn (now (l .before .before .before .args .place)) in
+    l .loop .curve + c .pairs-of .result ≡ defaultsIn (suffix p (l .loop .i - 1)) * survivorsIn (tableOf p)
+curve-is c =
+    let l = begun c .before in
+    let pre = l .before .before .before .pre in
+    more-curve (pre .0 .sound) (at (begun c)) (l .loop .inv) (pre .1 .1) (c .pairs-of .ensures)
+
+diagonal-is : (c : tie.After-pairs-of2 Inv-loop μ-loop) →
+    let l = begun2 c .before in
+    let p = placeIn (now (l .before .before .before .args .place)) in
+    l .loop .diagonal + c .pairs-of2 .result ≡ survivorsIn (suffix p (l .loop .i - 1)) * defaultsIn (tableOf p)
+diagonal-is c =
+    let l = begun2 c .before in
+    let pre = l .before .before .before .pre in
+    let f = at (begun2 c) in
+    more-diagonal (pre .0 .sound) f (l .loop .inv) (pre .1 .0) (omega (arith, c .before .survivors .ensures, c .before .before .obligors-at .ensures)) (c .pairs-of2 .ensures)
 
 reached : (c : tie.After-pairs-of2 Inv-loop μ-loop) →
-    let l = c .before .before .before .before .before .before .before in
-    let w = now (l .before .before .before .args .place) in
-    Next (placeIn w) (l .loop .i) (l .loop .caught + getD w (40 + (l .loop .i - 1)) 0)
-    (c .before .before .plus .result) (c .before .pairs-of .result) (c .pairs-of2 .result)
+    let l = begun2 c .before in
+    Next (placeIn (now (l .before .before .before .args .place))) (l .loop .i)
+    (l .loop .curve + c .before .before .before .pairs-of .result) (l .loop .diagonal + c .pairs-of2 .result)
 reached c =
-    let turn = c .before .before .before .before .before .before in
+    let turn = begun2 c in
     let l = turn .before in
-    let pre = l .before .before .before .pre in
-    let f = at turn in
-    next (pre .0 .sound) (pre .1) (turn .loop-test .taken) f (l .loop .inv)
-    (omega (arith, c .before .before .before .survivors .ensures, c .before .before .before .before .obligors-at .ensures)) (c .before .before .plus .ensures) (c .before .pairs-of .ensures) (c .pairs-of2 .ensures)
+    next (l .before .before .before .pre .0 .sound) (turn .loop-test .taken) (at turn) (l .loop .inv) (curve-is (c .before .before .before)) (diagonal-is c)
+
+add-curve : tie.Need-add-curve Inv-loop μ-loop
+add-curve c =
+    let l = begun c .before in
+    omega (arith, few-curve (l .before .before .before .pre .0 .sound) (at (begun c)) (l .loop .inv) (curve-is c))
+
+add-diagonal : tie.Need-add-diagonal Inv-loop μ-loop
+add-diagonal c = let n = reached c in omega (arith, n .small-b)
 
 difference-requires : tie.Need-difference-requires Inv-loop μ-loop
 difference-requires c κs = let n = reached (c .before .before) in (n .small-a, n .small-b)
@@ -167,24 +197,25 @@ difference-requires c κs = let n = reached (c .before .before) in (n .small-a, 
 loop-again : tie.Need-loop-again Inv-loop μ-loop
 loop-again c =
     let a = c .before .before in
-    let l = a .before .before .before .before .before .before .before .before in
-    taken (reached (a .before)) (l .loop .inv) (a .apart .ensures) (c .before .if1 .taken) (c .difference .result) (c .difference .ensures)
+    let l = begun2 (a .before) .before in
+    rw (l .before .grades-of .ensures)
+    (taken (reached (a .before)) (l .loop .inv) (a .apart .ensures) (c .before .if1 .taken) (c .difference .result) (c .difference .ensures))
 
 loop-again-2 : tie.Need-loop-again-2 Inv-loop μ-loop
 loop-again-2 c =
     let a = c .before in
-    let l = a .before .before .before .before .before .before .before .before in
+    let l = begun2 (a .before) .before in
     left (reached (a .before)) (l .loop .inv) (a .apart .ensures) (c .if1 .left)
 
-farthest-is : (p : Place) (n i y g h far : ℕ) (x : Survivors) → n ≡ p .grades → i ≡ 0 → Tried p i y x g h far
-    → record { cutoff = n - g; height = toZ w64 h } ≡ farthestOf (tableOf p)
+farthest-is : (p : Place) (i a b g h far : ℕ) → i ≡ 0 → Tried p i a b g h far
+    → record { cutoff = g; height = toZ w64 h } ≡ farthestOf (tableOf p)
 unfolding farthestOf
-farthest-is p n i y g h far x all e t =
-    let cutoffs : length (tableOf p) ≡ p .grades - i = omega (arith, length-grades p 0 (p .grades)) in
-    rw (cutoffs, all, ← t .high, ← t .cutoff)
+farthest-is p i a b g h far e t =
+    let all : length (tableOf p) ≡ p .grades - i = omega (arith, length-grades p 0 (p .grades)) in
+    rw (all, ← t .high, ← t .cutoff)
 
 returns : tie.Need-returns Inv-loop μ-loop
-returns c = farthest-is _ _ _ _ _ _ _ _ (c .before .before .grades-of .ensures) (omega arith) (c .before .loop .inv)
+returns c = farthest-is _ _ _ _ _ _ _ (omega arith) (c .before .loop .inv)
 
 pub farthest-spec : {M : Type 1} → statement M
 farthest-spec =
@@ -198,18 +229,18 @@ farthest-spec =
     (λ c. let f = at c in omega arith)
     (λ c. let f = at c in omega arith)
     (λ c. let f = at (c .before) in omega arith)
-    add-caught
-    (λ c κs. let f = at (c .before) in omega arith)
-    (λ c κs. let f = at (c .before .before) in omega (arith, c .obligors-at .ensures))
-    plus-requires
     (λ c κs. search needs)
+    add-curve
+    (λ c κs. let f = at (begun c) in omega arith)
+    (λ c κs. let f = at (begun (c .before)) in omega (arith, c .obligors-at .ensures))
     (λ c κs. search needs)
+    add-diagonal
     (λ c κs. search needs)
     difference-requires
+    (λ c. omega arith)
+    (λ c. let f = at (begun2 (c .before .before .before)) in omega arith)
     (λ c. search needs)
     loop-again
     (λ c. search needs)
     loop-again-2
-    (λ c. omega (arith, c .before .loop .inv .grade, c .before .before .grades-of .ensures))
-    (λ c. omega (arith, few-in (c .before .before .before .before .pre .0), c .before .before .grades-of .ensures))
     returns)
