@@ -5,7 +5,7 @@ ghost use mathlib.Core.List.{[], _∷_};
 ghost use lib.ListN.{length, getD};
 ghost use Rattle.table.specs.Table.{Counted, obligorsIn};
 ghost use Rattle.table.specs.Place.{blank};
-ghost use Rattle.table.specs.Words.{tableIn, IsPlace};
+ghost use Rattle.table.specs.Words.{tableIn, HoldsTable};
 ghost use Rattle.book.specs.Checks.{at-most, fault};
 ghost use Rattle.pooled_place.specs.Words.{HoldsPooledTable};
 ghost use Rattle.events.specs.Events.{gradeAfter, tableAfter, firmChecks, eventFault};
@@ -47,7 +47,7 @@ fn firm_fault(firms: u32) -> u32
 
 // 37 where there is no such firm, or it would be the last obligor of the table that goes, or else 0.
 fn exit_fault(firms: u32, counts: &[u32]) -> u32
-    requires { ⌜ IsPlace (now counts) ⌝ }
+    requires { ⌜ HoldsTable (now counts) ⌝ }
     ensures { λ r. ⌜ r ≡ fault (at-most 1 firms 37 ∷ at-most 2 (obligorsIn (tableIn (now (counts .entry)))) 37 ∷ []) ⌝ }
 {
     if firms == 0 {
@@ -59,7 +59,7 @@ fn exit_fault(firms: u32, counts: &[u32]) -> u32
 
 // 38 where the table has no room for one more obligor, or else 0.
 fn entry_fault(counts: &[u32]) -> u32
-    requires { ⌜ IsPlace (now counts) ⌝ }
+    requires { ⌜ HoldsTable (now counts) ⌝ }
     ensures { λ r. ⌜ r ≡ fault (firmChecks Event.SurvivorEnters blank (obligorsIn (tableIn (now (counts .entry))))) ⌝ }
 {
     let all = obligors_of(counts);
@@ -69,7 +69,7 @@ fn entry_fault(counts: &[u32]) -> u32
 impl Event {
     // 0, or the number that the event is refused with at a grade with these counts.
     fn fault(self, at: Counts, counts: &[u32]) -> u32
-        requires { ⌜ IsPlace (now counts) × Counted (gradeOf at) ⌝ }
+        requires { ⌜ HoldsTable (now counts) × Counted (gradeOf at) ⌝ }
         ensures { λ r. ⌜ r ≡ fault (firmChecks self (gradeOf at) (obligorsIn (tableIn (now (counts .entry))))) ⌝ }
     {
         let survivors = at.obligors.survivors(at.defaults);

@@ -156,8 +156,5 @@ grades-in w h = omega (arith, h, length-grades (placeIn w) 0 (placeIn w .grades)
 pub counts-lent : {w v : List ℕ} → HoldsPooledTable w → v ≡ countsIn w → HoldsTable v
 counts-lent h e = subst HoldsTable (sym e) (held-table h)
 
-pub counts-left : {w v : List ℕ} → HoldsPooledTable w → v ≡ countsIn w → IsPlace v
-counts-left {w} h e = rw (e, held-counts h) (is-place (place.holds (tableIn w) (h .sound)))
-
 pub counts-same : (w : List ℕ) {v : List ℕ} → v ≡ countsIn w → tableIn v ≡ tableIn w
 counts-same w e = ap (λ (x : List ℕ). tableIn x) e ∙ table-counts w

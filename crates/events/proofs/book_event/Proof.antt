@@ -8,11 +8,11 @@ use denote.Ref.{now}
 use lib.ListN.{length, getD, set, length-set}
 use Rattle.table.specs.Table.{Table, Sound, obligorsIn}
 use Rattle.table.specs.Place.{placeOf}
-use Rattle.table.specs.Words.{wordsOf, tableIn, HoldsTable, IsPlace}
+use Rattle.table.specs.Words.{wordsOf, tableIn, HoldsTable}
 use Rattle.book.specs.Checks.{fault}
 use Rattle.book.proofs.Checks.{found, pass, over, stop}
 use Rattle.pooled_place.specs.PooledPlace.{listOf}
-use Rattle.pooled_place.proofs.Words.{grade-count, held-length, counts-lent, counts-left, counts-same}
+use Rattle.pooled_place.proofs.Words.{grade-count, held-length, counts-lent, counts-same}
 use Rattle.pooled_place.proofs.Lists.{table-stored, pooled-anew, list-anew}
 use Rattle.events.specs.Events.{gradeNumbered, tableAfter, firmChecks, eventFault}
 use Rattle.events.specs.declared.Counts.{Counts}
@@ -38,9 +38,6 @@ module _ (c : tie.After-counts-of) where
 
   holds : HoldsTable (now (c .counts-of .result))
   holds = counts-lent (begun .pre) (c .counts-of .ensures)
-
-  left : IsPlace (now (c .counts-of .result))
-  left = counts-left (begun .pre) (c .counts-of .ensures)
 
   same-table : tableIn (now (c .counts-of .result)) ≡ table
   same-table = counts-same words (c .counts-of .ensures)
@@ -147,7 +144,7 @@ fault-requires : tie.Need-fault-requires
 fault-requires c κs =
     let l = c .before in
     let k = told l in
-    (left (counted k), at-counted (at-start k .args .event) (g k) (t k) (at-start k .pre .sound) (from k) (to k) (at l) (at-is l))
+    (holds (counted k), at-counted (at-start k .args .event) (g k) (t k) (at-start k .pre .sound) (from k) (to k) (at l) (at-is l))
 
 left-alone : (n : ℕ) (u : Table) (w : List ℕ) → (n ≡ 0 → ⊥) → w ≡ wordsAfter n u w
 left-alone zero u w h = absurd (h refl)
