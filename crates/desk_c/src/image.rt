@@ -7,20 +7,23 @@ ghost use Rattle.pooled_place.specs.Words.{pooledPlaceSize, IsPooledPlace};
 ghost use Rattle.calls.specs.Answers.{leaves};
 ghost use Rattle.calls.specs.Calls.{changeFault, changedTo, load, clear, event};
 ghost use Rattle.calls.specs.Private.{Fillable};
+ghost use Rattle.desk.specs.Calls.{placeFault};
 ghost use Rattle.desk_c.specs.Image.{wordsFrom, countsFrom};
 ghost use Rattle.desk_c.specs.Private.{deskSize, startOf, withWords};
 use events::Event;
 use pooled_place::POOLED_PLACE;
 use table::PLACE;
+use table::wide;
 
 // How many numbers a desk takes.
 pub const DESK: usize = 484;
 
 // Where the words of place 1 or 2 start.
 pub fn start_of(place: u32) -> usize
+    requires { ⌜ placeFault place ≡ 0 ⌝ }
     ensures { λ r. ⌜ (r ≡ startOf place) × (r + pooledPlaceSize ≤ deskSize) ⌝ }
 {
-    if place == 1 { 0 } else { POOLED_PLACE }
+    wide(place - 1) * POOLED_PLACE
 }
 
 // The words of the place that start at `at`.

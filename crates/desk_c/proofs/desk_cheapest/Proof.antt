@@ -74,7 +74,7 @@ desk-cheapest-spec =
     (tie.spec
     (λ c κs. search needs)
     returns
-    (λ c κs. search needs)
+    (λ c κs. there _ _ (c .before .before .is-place .ensures) (c .before .if1 .left))
     (λ c κs. search needs)
     (λ c κs. words-place _ (start c .args .place) (start c .pre .sound) (at c))
     (λ c. search needs)

@@ -35,6 +35,6 @@ desk-load-spec =
     (tie.spec
     (λ c κs. search needs)
     returns
-    (λ c κs. search needs)
+    (λ c κs. there _ _ (c .before .before .is-place .ensures) (c .before .if1 .left))
     (λ c κs. (omega (arith, c .start-of .ensures .1, image-length (c .before .before .before .before .before .pre)), fillable (c .before .before .before .before .before .pre) (c .before .before .before .before .before .args .place) _ (c .start-of .ensures .0)))
     returns-2)

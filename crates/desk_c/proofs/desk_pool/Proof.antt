@@ -49,7 +49,7 @@ desk-pool-spec =
     (tie.spec
     (λ c κs. search needs)
     returns
-    (λ c κs. search needs)
+    (λ c κs. there _ _ (c .before .before .is-place .ensures) (c .before .if1 .left))
     (λ c κs. search needs)
     pool-requires
     (λ c. search needs)
