@@ -1,4 +1,5 @@
 //! What is measured: each call on tables of several shapes, all of 40 grades. The same inputs in every run.
+use reference::events::{Event, EVERY_EVENT};
 use reference::lenders::times;
 use reference::random::Random;
 use reference::table::Table;
@@ -8,6 +9,11 @@ pub enum Call {
     /// Place 1 of a fresh desk, the last rater of a full book.
     Load,
     Clear,
+    /// At a grade of place 1.
+    Event {
+        event: Event,
+        grade: u32,
+    },
     Pool,
     Cheapest {
         u: u32,
@@ -34,6 +40,8 @@ pub struct Case {
 
 const GRADES: u64 = 40;
 const RATERS: usize = 16;
+/// The grade at which events are booked, in the middle of the table.
+const EVENT_GRADE: u32 = 20;
 
 fn rows(of: &Table) -> Vec<(u64, u64)> {
     of.grades.iter().map(|grade| (grade.obligors, grade.defaults)).collect()
@@ -59,6 +67,11 @@ fn rising_by(part: u64, obligors: u64) -> Table {
 /// Every grade is a block. N is the largest, and the rates go through every band.
 fn rising() -> Table {
     rising_by(4, 25_000)
+}
+
+/// The same with room for more obligors.
+fn rising_with_room() -> Table {
+    rising_by(4, 24_000)
 }
 
 /// Every grade is a block. N is half the largest that is compared on shares.
@@ -125,6 +138,13 @@ fn blurred(of: &Table, grade: usize) -> Table {
     blurred
 }
 
+/// The table with these counts in the grade of the events.
+fn with_counts(mut table: Table, obligors: u64, defaults: u64) -> Table {
+    let grade = &mut table.grades[EVENT_GRADE as usize - 1];
+    (grade.obligors, grade.defaults) = (obligors, defaults);
+    table
+}
+
 fn case(name: &'static str, shape: &'static str, call: Call, tables: impl Into<Vec<Table>>) -> Case {
     Case {
         name,
@@ -138,6 +158,31 @@ fn case(name: &'static str, shape: &'static str, call: Call, tables: impl Into<V
 /// For a call that works on one place.
 fn alone(table: Table) -> [Table; 2] {
     [table.clone(), table]
+}
+
+/// Each event accepted, and each refusal.
+fn events() -> Vec<Case> {
+    let at = |grade, event: Event, shape, table| case(event.name(), shape, Call::Event { event, grade }, alone(table));
+    let booked = |event, shape, table| at(EVENT_GRADE, event, shape, table);
+    let accepted = EVERY_EVENT.into_iter().flat_map(|event| {
+        [
+            booked(event, "40 blocks", rising_with_room()),
+            booked(event, "random", mixed()),
+            booked(event, "one block", upside_down(&rising_with_room())),
+        ]
+    });
+    let nobody = || table(&[(0, 0); GRADES as usize]);
+    let all_defaulted = || with_counts(rising(), 25_000, 25_000);
+    let refused = [
+        at(GRADES as u32 + 1, Event::SurvivorEnters, "grade 41, refused 36", rising_with_room()),
+        booked(Event::SurvivorEnters, "full table, refused 38", rising()),
+        booked(Event::SurvivorLeaves, "no survivor, refused 37", all_defaulted()),
+        booked(Event::SurvivorLeaves, "last obligor, refused 37", with_counts(nobody(), 1, 0)),
+        booked(Event::SurvivorDefaults, "no survivor, refused 37", all_defaulted()),
+        booked(Event::DefaultedRemoved, "no default, refused 37", with_counts(rising(), 25_000, 0)),
+        booked(Event::DefaultedRemoved, "last obligor, refused 37", with_counts(nobody(), 1, 1)),
+    ];
+    accepted.chain(refused).collect()
 }
 
 /// On tables of the same D and S.
@@ -190,21 +235,25 @@ fn shortlists() -> Vec<Case> {
 pub fn cases() -> Vec<Case> {
     let prices = Call::Cheapest { u: 1_000, v: 70 };
     let falling = || upside_down(&rising());
+    let load = |shape, table| case("load", shape, Call::Load, alone(table));
     let mut cases = vec![
-        case("load", "obligors", Call::Load, alone(rising())),
+        load("40 blocks", rising()),
         Case {
             kind: 1,
-            ..case("load", "survivors", Call::Load, alone(rising()))
+            ..load("40 blocks, by survivors", rising())
         },
+        load("random", mixed()),
+        load("one block", falling()),
+        load("40 blocks, then one", collapsing()),
+        load("every second grade empty", half_empty()),
         case("clear", "", Call::Clear, alone(rising())),
-        case("pool", "40 blocks", Call::Pool, alone(rising())),
-        case("pool", "random", Call::Pool, alone(mixed())),
-        case("pool", "one block", Call::Pool, alone(falling())),
-        case("pool", "40 blocks, then one", Call::Pool, alone(collapsing())),
-        case("pool", "every second grade empty", Call::Pool, alone(half_empty())),
+    ];
+    cases.extend(events());
+    cases.extend([
+        case("pool", "", Call::Pool, alone(rising())),
         case("cheapest", "40 blocks", prices, alone(rising())),
         case("cheapest", "random", prices, alone(mixed())),
-    ];
+    ]);
     cases.extend(comparisons());
     cases.extend(comparisons_on_shares());
     cases.extend(shortlists());

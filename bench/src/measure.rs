@@ -60,6 +60,11 @@ impl<V: Version> Scene<V> {
                     black_box(desk.clear(black_box(1)));
                 }
             }
+            Call::Event { event, grade } => {
+                for desk in desks {
+                    black_box(desk.event(event, black_box(1), black_box(grade)));
+                }
+            }
             Call::Pool => times.for_each(|_| drop(black_box(desk.pool(black_box(1), black_box(&mut self.numbers))))),
             Call::Cheapest { u, v } => times.for_each(|_| drop(black_box(desk.cheapest(black_box(1), black_box(u), black_box(v))))),
             Call::Compare => times.for_each(|_| drop(black_box(black_box(desk).compare()))),
@@ -103,7 +108,7 @@ pub fn time<V: Version>(case: &Case) {
 /// All that a call leaves: its answer, what it was lent, and the desk, as the book that is written of it.
 #[derive(Debug)]
 pub struct Outcome {
-    answer: Answer,
+    pub answer: Answer,
     numbers: Vec<u32>,
     bytes: Vec<u8>,
     desk: (Answer, Vec<u8>),
@@ -126,6 +131,7 @@ pub fn outcome<V: Version>(case: &Case) -> Outcome {
     let answer = match case.call {
         Call::Load => desk.load(1, book, 16).into(),
         Call::Clear => desk.clear(1).into(),
+        Call::Event { event, grade } => desk.event(event, 1, grade).into(),
         Call::Pool => desk.pool(1, numbers).into(),
         Call::Cheapest { u, v } => desk.cheapest(1, u, v).into(),
         Call::Compare => desk.compare().into(),

@@ -1,6 +1,7 @@
 //! The proved library, through the C interface of `bindings/rust`, with refusal numbers for errors.
 
 use desk::sys;
+use reference::events::Event;
 pub use desk::sys::{Desk, Verdict};
 pub use desk::{Cutoff, Fraction, Measures, Spread};
 
@@ -27,6 +28,16 @@ pub fn load(desk: &mut Desk, place: u32, book: &[u8], rater: u32) -> Result<(), 
 #[inline(always)]
 pub fn clear(desk: &mut Desk, place: u32) -> Result<(), u32> {
     accepted(sys::clear(desk, place))
+}
+
+#[inline(always)]
+pub fn event(desk: &mut Desk, event: Event, place: u32, grade: u32) -> Result<(), u32> {
+    accepted(match event {
+        Event::SurvivorEnters => sys::survivor_enters(desk, place, grade),
+        Event::SurvivorLeaves => sys::survivor_leaves(desk, place, grade),
+        Event::SurvivorDefaults => sys::survivor_defaults(desk, place, grade),
+        Event::DefaultedRemoved => sys::defaulted_removed(desk, place, grade),
+    })
 }
 
 #[inline(always)]

@@ -2,6 +2,7 @@
 use crate::answer::Answer;
 use crate::{plain, proved};
 use reference::desk::Desk as ReferenceDesk;
+use reference::events::Event;
 
 /// A desk of one of the versions. The answers are of its own types, so that making them uniform costs nothing where it is measured.
 pub trait Version: Clone {
@@ -9,6 +10,7 @@ pub trait Version: Clone {
     fn empty() -> Self;
     fn load(&mut self, place: u32, book: &[u8], rater: u32) -> impl Into<Answer>;
     fn clear(&mut self, place: u32) -> impl Into<Answer>;
+    fn event(&mut self, event: Event, place: u32, grade: u32) -> impl Into<Answer>;
     fn pool(&self, place: u32, numbers: &mut [u32]) -> impl Into<Answer>;
     fn cheapest(&self, place: u32, u: u32, v: u32) -> impl Into<Answer>;
     fn compare(&self) -> impl Into<Answer>;
@@ -34,6 +36,10 @@ macro_rules! entry_points {
 entry_points! {
     plain_load: plain::Desk::load(desk: &mut plain::Desk, place: u32, book: &[u8], rater: u32) -> Result<(), u32>;
     plain_clear: plain::Desk::clear(desk: &mut plain::Desk, place: u32) -> Result<(), u32>;
+    plain_survivor_enters: plain::Desk::survivor_enters(desk: &mut plain::Desk, place: u32, grade: u32) -> Result<(), u32>;
+    plain_survivor_leaves: plain::Desk::survivor_leaves(desk: &mut plain::Desk, place: u32, grade: u32) -> Result<(), u32>;
+    plain_survivor_defaults: plain::Desk::survivor_defaults(desk: &mut plain::Desk, place: u32, grade: u32) -> Result<(), u32>;
+    plain_defaulted_removed: plain::Desk::defaulted_removed(desk: &mut plain::Desk, place: u32, grade: u32) -> Result<(), u32>;
     plain_pool: plain::Desk::pool(desk: &plain::Desk, place: u32, numbers: &mut [u32]) -> Result<(), u32>;
     plain_cheapest: plain::Desk::cheapest(desk: &plain::Desk, place: u32, u: u32, v: u32) -> Result<plain::Cheapest, u32>;
     plain_compare: plain::Desk::compare(desk: &plain::Desk) -> Result<plain::Verdict, u32>;
@@ -45,6 +51,7 @@ entry_points! {
     plain_write: plain::Desk::write(desk: &plain::Desk, book: &mut [u8]) -> Result<usize, u32>;
     reference_load: ReferenceDesk::load(desk: &mut ReferenceDesk, place: u32, rater: u32, book: &[u8]) -> Result<(), u32>;
     reference_clear: ReferenceDesk::clear(desk: &mut ReferenceDesk, place: u32) -> Result<(), u32>;
+    reference_event: ReferenceDesk::event(desk: &mut ReferenceDesk, event: Event, place: u32, grade: u32) -> Result<(), u32>;
     reference_pool: ReferenceDesk::pool(desk: &ReferenceDesk, place: u32, numbers: &mut [u32]) -> Result<(), u32>;
     reference_cheapest: ReferenceDesk::cheapest(desk: &ReferenceDesk, place: u32, u: u32, v: u32) -> Result<(u32, u64), u32>;
     reference_compare: ReferenceDesk::compare(desk: &ReferenceDesk) -> Result<reference::cutoff::Verdict, u32>;
@@ -56,10 +63,21 @@ entry_points! {
     reference_write: ReferenceDesk::write(desk: &ReferenceDesk, book: &mut [u8]) -> Result<usize, u32>;
 }
 
+/// As in C, each event has a function of its own.
+#[inline(always)]
+fn of_event(event: Event) -> fn(&mut plain::Desk, u32, u32) -> Result<(), u32> {
+    match event {
+        Event::SurvivorEnters => plain_survivor_enters,
+        Event::SurvivorLeaves => plain_survivor_leaves,
+        Event::SurvivorDefaults => plain_survivor_defaults,
+        Event::DefaultedRemoved => plain_defaulted_removed,
+    }
+}
+
 /// The face of a version, from the function that makes an empty desk and those that make the calls.
 macro_rules! version {
-    ($name:literal, $desk:ty, $empty:path, $load:expr, $clear:path, $pool:path, $cheapest:path, $compare:path, $compare_shares:path,
-     $shortlist:path, $measures:path, $brier:path, $spread:path, $write:path) => {
+    ($name:literal, $desk:ty, $empty:path, $load:expr, $clear:path, $event:expr, $pool:path, $cheapest:path, $compare:path,
+     $compare_shares:path, $shortlist:path, $measures:path, $brier:path, $spread:path, $write:path) => {
         impl Version for $desk {
             const NAME: &'static str = $name;
             fn empty() -> Self {
@@ -72,6 +90,10 @@ macro_rules! version {
             #[inline(always)]
             fn clear(&mut self, place: u32) -> impl Into<Answer> {
                 $clear(self, place)
+            }
+            #[inline(always)]
+            fn event(&mut self, event: Event, place: u32, grade: u32) -> impl Into<Answer> {
+                $event(self, event, place, grade)
             }
             #[inline(always)]
             fn pool(&self, place: u32, numbers: &mut [u32]) -> impl Into<Answer> {
@@ -119,6 +141,7 @@ version!(
     proved::Desk::empty,
     proved::load,
     proved::clear,
+    proved::event,
     proved::pool,
     proved::cheapest,
     proved::compare,
@@ -135,6 +158,7 @@ version!(
     plain::Desk::empty,
     plain_load,
     plain_clear,
+    |desk, event, place, grade| of_event(event)(desk, place, grade),
     plain_pool,
     plain_cheapest,
     plain_compare,
@@ -151,6 +175,7 @@ version!(
     ReferenceDesk::fresh,
     |desk, place, book, rater| reference_load(desk, place, rater, book),
     reference_clear,
+    reference_event,
     reference_pool,
     reference_cheapest,
     reference_compare,

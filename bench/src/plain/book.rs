@@ -1,5 +1,5 @@
 //! The byte format: reading the table of one rater or of each, writing tables.
-use super::{Place, Refusal, Table, GRADES, MILLION, RATERS};
+use super::{Refusal, Rows, Table, GRADES, MILLION, RATERS};
 
 fn two(bytes: &[u8], at: usize) -> usize {
     u16::from_le_bytes([bytes[at], bytes[at + 1]]) as usize
@@ -9,8 +9,8 @@ fn four(row: &[u8; 12], at: usize) -> u32 {
     u32::from_le_bytes([row[at], row[at + 1], row[at + 2], row[at + 3]])
 }
 
-/// Reads the table of a rater into an empty place, which stays empty where the reading is refused.
-pub fn read(book: &[u8], rater: u32, place: &mut Place) -> Result<(), Refusal> {
+/// Reads the table of a rater into empty rows, which stay empty where the reading is refused.
+pub fn read(book: &[u8], rater: u32, into: &mut Rows) -> Result<(), Refusal> {
     let raters = count_raters(book)?;
     let rater = rater as usize;
     if rater < 1 || rater > raters {
@@ -18,9 +18,9 @@ pub fn read(book: &[u8], rater: u32, place: &mut Place) -> Result<(), Refusal> {
     }
     check_layout(book, raters)?;
     let start = two(book, 2 + 2 * rater);
-    let read = read_rows(&book[start..], place);
+    let read = read_rows(&book[start..], into);
     if read.is_err() {
-        *place = Place::EMPTY;
+        *into = Rows::EMPTY;
     }
     read
 }
@@ -29,10 +29,10 @@ pub fn read(book: &[u8], rater: u32, place: &mut Place) -> Result<(), Refusal> {
 pub fn read_each(book: &[u8], mut hand_over: impl FnMut(usize, &Table)) -> Result<usize, Refusal> {
     let raters = count_raters(book)?;
     check_layout(book, raters)?;
-    let mut place = Place::EMPTY;
+    let mut rows = Rows::EMPTY;
     for (index, start) in book[4..4 + 2 * raters].chunks_exact(2).enumerate() {
-        read_rows(&book[two(start, 0)..], &mut place)?;
-        hand_over(index, &place.table()?);
+        read_rows(&book[two(start, 0)..], &mut rows)?;
+        hand_over(index, &rows.table()?);
     }
     Ok(raters)
 }
@@ -73,11 +73,11 @@ fn check_layout(book: &[u8], raters: usize) -> Result<(), Refusal> {
     }
 }
 
-fn read_rows(table: &[u8], place: &mut Place) -> Result<(), Refusal> {
+fn read_rows(table: &[u8], into: &mut Rows) -> Result<(), Refusal> {
     let grades = table[0] as usize;
     let of_survivors = table[1] == 1;
     let rows = table[4..4 + 12 * grades].as_chunks::<12>().0;
-    let columns = place.obligors.iter_mut().zip(&mut place.defaults).zip(&mut place.announced);
+    let columns = into.obligors.iter_mut().zip(&mut into.defaults).zip(&mut into.announced);
     let (mut total, mut before) = (0u64, 0);
     for (row, ((obligors, defaults), announced)) in rows.iter().zip(columns) {
         let (column, d, p) = (four(row, 0), four(row, 4), four(row, 8));
@@ -101,8 +101,8 @@ fn read_rows(table: &[u8], place: &mut Place) -> Result<(), Refusal> {
     if total > MILLION.into() {
         return Err(11);
     }
-    place.grades = grades;
-    place.loaded = true;
+    into.grades = grades;
+    into.loaded = true;
     Ok(())
 }
 

@@ -4,6 +4,7 @@
 
 mod book;
 mod cutoff;
+mod events;
 mod measures;
 mod pooling;
 mod shortlist;
@@ -28,9 +29,9 @@ const MOST_ON_SHARES: u32 = 100_000;
 /// Document 01's number for a refusal.
 pub type Refusal = u32;
 
-/// Room for one table. An empty place is all zeros.
+/// Room for one table. Empty, it is all zeros.
 #[derive(Clone, Copy)]
-struct Place {
+struct Rows {
     obligors: [u32; GRADES],
     defaults: [u32; GRADES],
     announced: [u32; GRADES],
@@ -38,8 +39,8 @@ struct Place {
     loaded: bool,
 }
 
-impl Place {
-    const EMPTY: Place = Place {
+impl Rows {
+    const EMPTY: Rows = Rows {
         obligors: [0; GRADES],
         defaults: [0; GRADES],
         announced: [0; GRADES],
@@ -56,6 +57,40 @@ impl Place {
             defaults: &self.defaults[..self.grades],
             announced: &self.announced[..self.grades],
         })
+    }
+}
+
+/// What pool writes of a grade: the defaults and the obligors of its block, and its band.
+type Numbers = [u32; 3];
+
+/// A table and its pooled list, or nothing but zeros.
+#[derive(Clone, Copy)]
+struct Place {
+    rows: Rows,
+    pooled: [Numbers; GRADES],
+}
+
+impl Place {
+    const EMPTY: Place = Place {
+        rows: Rows::EMPTY,
+        pooled: [[0; 3]; GRADES],
+    };
+
+    fn table(&self) -> Result<Table<'_>, Refusal> {
+        self.rows.table()
+    }
+
+    fn pooled(&self) -> Result<Pooled<'_>, Refusal> {
+        Ok(Pooled {
+            table: self.table()?,
+            list: &self.pooled[..self.rows.grades],
+        })
+    }
+
+    /// Makes the pooled list anew.
+    fn renew(&mut self) -> Result<(), Refusal> {
+        pooling::pool(&self.rows.table()?, &mut self.pooled[..self.rows.grades]);
+        Ok(())
     }
 }
 
@@ -83,6 +118,13 @@ impl Table<'_> {
             defaults: self.defaults.iter().sum(),
         }
     }
+}
+
+/// A table and the numbers that pool writes of its grades.
+#[derive(Clone, Copy)]
+struct Pooled<'a> {
+    table: Table<'a>,
+    list: &'a [Numbers],
 }
 
 /// N and D.
@@ -142,15 +184,16 @@ impl Desk {
 
     pub fn load(&mut self, place: u32, book: &[u8], rater: u32) -> Result<(), Refusal> {
         let place = self.place_mut(place)?;
-        if place.loaded {
+        if place.rows.loaded {
             return Err(21);
         }
-        book::read(book, rater, place)
+        book::read(book, rater, &mut place.rows)?;
+        place.renew()
     }
 
     pub fn clear(&mut self, place: u32) -> Result<(), Refusal> {
         let place = self.place_mut(place)?;
-        if !place.loaded {
+        if !place.rows.loaded {
             return Err(22);
         }
         *place = Place::EMPTY;
@@ -158,9 +201,8 @@ impl Desk {
     }
 
     pub fn pool(&self, place: u32, numbers: &mut [u32]) -> Result<(), Refusal> {
-        let table = self.place(place)?.table()?;
-        let numbers = numbers.get_mut(..3 * table.grades()).ok_or(13u32)?;
-        pooling::pool(&table, numbers.as_chunks_mut().0);
+        let list = self.place(place)?.pooled()?.list.as_flattened();
+        numbers.get_mut(..list.len()).ok_or(13u32)?.copy_from_slice(list);
         Ok(())
     }
 
@@ -173,25 +215,25 @@ impl Desk {
     }
 
     /// Both tables, each with a default and a survivor, and their totals.
-    fn both(&self) -> Result<([Table<'_>; 2], [Totals; 2]), Refusal> {
-        let tables = [self.first.table()?, self.second.table()?];
-        let totals = tables.map(|table| table.totals());
+    fn both(&self) -> Result<([Pooled<'_>; 2], [Totals; 2]), Refusal> {
+        let both = [self.first.pooled()?, self.second.pooled()?];
+        let totals = both.map(|pooled| pooled.table.totals());
         check_outcomes(&totals)?;
-        Ok((tables, totals))
+        Ok((both, totals))
     }
 
     pub fn compare(&self) -> Result<Verdict, Refusal> {
-        let (tables, totals) = self.both()?;
+        let (both, totals) = self.both()?;
         check_same(&totals)?;
-        Ok(verdict::judge(tables.each_ref()))
+        Ok(verdict::judge(both.map(|pooled| pooled.list)))
     }
 
     pub fn compare_shares(&self) -> Result<Verdict, Refusal> {
-        let (tables, totals) = self.both()?;
+        let (both, totals) = self.both()?;
         if totals.iter().any(|of| of.obligors > MOST_ON_SHARES) {
             return Err(35);
         }
-        Ok(verdict::judge_shares(tables.each_ref(), totals))
+        Ok(verdict::judge_shares(both.map(|pooled| pooled.list), totals))
     }
 
     pub fn measures(&self, place: u32) -> Result<Measures, Refusal> {
@@ -203,7 +245,7 @@ impl Desk {
     }
 
     pub fn spread(&self, place: u32) -> Result<Spread, Refusal> {
-        Ok(spread::spread(&self.place(place)?.table()?))
+        Ok(spread::spread(&self.place(place)?.pooled()?))
     }
 
     pub fn write(&self, book: &mut [u8]) -> Result<usize, Refusal> {

@@ -1,5 +1,5 @@
 //! The blocks of a table by one pass with a stack, and the numbers that pool writes.
-use super::{Table, GRADES, MILLION};
+use super::{Numbers, Table, GRADES, MILLION};
 
 /// A run of neighbouring grades.
 #[derive(Clone, Copy)]
@@ -106,7 +106,7 @@ const BAND_LIMITS: [u32; 14] = [
 ];
 
 /// The numbers of each grade. Rates rise from block to block, so a block's band is looked for from the last one's on.
-pub fn pool(table: &Table, numbers: &mut [[u32; 3]]) {
+pub fn pool(table: &Table, numbers: &mut [Numbers]) {
     let mut blocks = Blocks::NONE;
     blocks.pool(table);
     let mut rows = numbers.iter_mut();

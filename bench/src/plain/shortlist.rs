@@ -1,5 +1,5 @@
 //! The shortlist of a book.
-use super::verdict::{where_dearer, Scale, Weights};
+use super::verdict::{where_dearer, Scale};
 use super::{book, check_outcomes, check_same, Refusal, Totals, RATERS};
 
 /// Writes the raters that no other one is better than, and answers how many. Each is read and pooled once.
@@ -7,7 +7,7 @@ pub fn shortlist(book: &[u8], numbers: &mut [u32]) -> Result<usize, Refusal> {
     let mut scales = [const { Scale::NONE }; RATERS];
     let mut totals = [Totals::default(); RATERS];
     let raters = book::read_each(book, |rater, table| {
-        scales[rater].pool(table, Weights::ONCE);
+        scales[rater].pool(table);
         totals[rater] = table.totals();
     })?;
     let totals = &totals[..raters];

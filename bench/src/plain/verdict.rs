@@ -1,5 +1,5 @@
 //! The verdict on two scales, by counts or by shares.
-use super::{Table, Totals, GRADES};
+use super::{Numbers, Table, Totals, GRADES};
 
 /// The prices of a missed default and of a survivor turned away.
 #[derive(Clone, Copy)]
@@ -18,13 +18,13 @@ pub enum Verdict {
 
 /// How often each default and each survivor of a scale counts.
 #[derive(Clone, Copy)]
-pub struct Weights {
+struct Weights {
     defaults: u32,
     survivors: u32,
 }
 
 impl Weights {
-    pub const ONCE: Weights = Weights { defaults: 1, survivors: 1 };
+    const ONCE: Weights = Weights { defaults: 1, survivors: 1 };
 
     /// Shares times D and S of both tables are counts, each table's in the other's totals.
     fn of_other(totals: Totals) -> Weights {
@@ -77,8 +77,8 @@ impl Block {
     }
 }
 
-/// The blocks of a scale, the worst first. They count no grades, which only pool asks for, and are weighed before they are pooled: once for
-/// each grade, where a sweep would weigh each block whenever it looks at it.
+/// The blocks of a scale, the worst first. They count no grades, which only pool asks for, and are weighed when they are stored: once, where
+/// a sweep would weigh each block whenever it looks at it.
 pub struct Scale {
     defaults: [i64; GRADES],
     survivors: [i64; GRADES],
@@ -102,11 +102,10 @@ impl Scale {
     }
 
     /// From the worst grade to the best. An empty grade is below none, so it joins the block behind it, or the grade before it joins it.
-    #[inline(always)] // so that weights of 1 cost nothing
-    pub fn pool(&mut self, table: &Table, weights: Weights) {
+    pub fn pool(&mut self, table: &Table) {
         let mut count = 0;
         for (obligors, defaults) in table.counts().rev() {
-            let mut block = weights.weigh(obligors, defaults);
+            let mut block = Weights::ONCE.weigh(obligors, defaults);
             while let Some(next) = self.last(count) {
                 if block.is_below(&next) {
                     break;
@@ -116,6 +115,22 @@ impl Scale {
             }
             (self.defaults[count], self.survivors[count]) = (block.defaults, block.survivors);
             count += 1;
+        }
+        self.count = count;
+    }
+
+    /// From a pooled list, in which a grade with the counts of the one before is of its block.
+    #[inline(always)] // so that weights of 1 cost nothing
+    fn read(&mut self, list: &[Numbers], weights: Weights) {
+        let mut count = 0;
+        let mut before = (0, 0);
+        for &[defaults, obligors, _] in list.iter().rev() {
+            if (defaults, obligors) != before {
+                let block = weights.weigh(obligors, defaults);
+                (self.defaults[count], self.survivors[count]) = (block.defaults, block.survivors);
+                count += 1;
+                before = (defaults, obligors);
+            }
         }
         self.count = count;
     }
@@ -147,10 +162,10 @@ pub fn where_dearer(first: &Scale, second: &Scale) -> Option<Block> {
 }
 
 #[inline(always)] // so that weights of 1 cost nothing
-fn judge_weighed([first, second]: [&Table; 2], [ours, theirs]: [Weights; 2]) -> Verdict {
+fn judge_weighed([first, second]: [&[Numbers]; 2], [ours, theirs]: [Weights; 2]) -> Verdict {
     let (mut one, mut two) = (Scale::NONE, Scale::NONE);
-    one.pool(first, ours);
-    two.pool(second, theirs);
+    one.read(first, ours);
+    two.read(second, theirs);
     let first_dearer = where_dearer(&one, &two).map(|block| ours.price(&block, theirs));
     let second_dearer = where_dearer(&two, &one).map(|block| theirs.price(&block, ours));
     match (first_dearer, second_dearer) {
@@ -161,12 +176,12 @@ fn judge_weighed([first, second]: [&Table; 2], [ours, theirs]: [Weights; 2]) -> 
     }
 }
 
-/// On tables of the same D and S.
-pub fn judge(tables: [&Table; 2]) -> Verdict {
-    judge_weighed(tables, [Weights::ONCE; 2])
+/// On the pooled lists of tables of the same D and S.
+pub fn judge(lists: [&[Numbers]; 2]) -> Verdict {
+    judge_weighed(lists, [Weights::ONCE; 2])
 }
 
-/// On tables of these totals.
-pub fn judge_shares(tables: [&Table; 2], [first, second]: [Totals; 2]) -> Verdict {
-    judge_weighed(tables, [Weights::of_other(second), Weights::of_other(first)])
+/// On the pooled lists of tables of these totals.
+pub fn judge_shares(lists: [&[Numbers]; 2], [first, second]: [Totals; 2]) -> Verdict {
+    judge_weighed(lists, [Weights::of_other(second), Weights::of_other(first)])
 }
