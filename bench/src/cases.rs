@@ -309,6 +309,24 @@ mod tests {
         assert!(rising().grades.iter().all(full));
     }
 
+    /// Before an event and after it.
+    #[test]
+    fn events_are_as_named() {
+        for case in events() {
+            let Call::Event { event, grade } = case.call else { unreachable!("all are events") };
+            let expected = match case.shape {
+                "40 blocks" => 40..=40,
+                "one block" => 1..=1,
+                "random" => 5..=20,
+                _ => continue,
+            };
+            let after = reference::events::after(&case.tables[0], event, grade).expect("it is accepted");
+            for table in [&case.tables[0], &after] {
+                assert!(expected.contains(&blocks(table).len()), "{}: {}", case.name, case.shape);
+            }
+        }
+    }
+
     fn word(verdict: Verdict) -> &'static str {
         match verdict {
             Verdict::Equal => "equal",

@@ -66,7 +66,9 @@ mod tests {
     use super::*;
     use answer::Answer;
     use cases::Call;
+    use reference::courses::EVERY_COURSE;
     use reference::draft::Draft;
+    use reference::events::{Event, EVERY_EVENT};
     use reference::lenders::every_lenders;
     use reference::partners::{one_sided, other_obligors, same_obligors};
     use reference::population::any_table;
@@ -102,6 +104,58 @@ mod tests {
                 compare(pair(&mut random).into());
             }
             compare([any_table(&mut random), any_table(&mut random)]);
+        }
+    }
+
+    /// What is measured of an event is what its name says.
+    #[test]
+    fn cases_are_refused_as_named() {
+        for case in cases() {
+            let named = case.shape.split_once("refused ").map(|(_, number)| number.parse().unwrap());
+            let refused = match measure::outcome::<ReferenceDesk>(&case).answer {
+                Answer::Refused(number) => Some(number),
+                _ => None,
+            };
+            assert_eq!(refused, named, "{}: {}", case.name, case.shape);
+        }
+    }
+
+    fn loaded<V: Version>(book: &[u8]) -> V {
+        let mut desk = V::empty();
+        desk.load(1, book, 1);
+        desk.load(2, book, 2);
+        desk
+    }
+
+    /// What an event answers, and what can be seen of the desk then: the pooled lists, and the tables as the book that is written of them.
+    fn booked<V: Version>(desk: &mut V, event: Event, place: u32, grade: u32) -> (Answer, [Vec<u32>; 2], Vec<u8>) {
+        let answer = desk.event(event, place, grade).into();
+        let lists = [1, 2].map(|place| {
+            let mut list = vec![u32::MAX; 120];
+            desk.pool(place, &mut list);
+            list
+        });
+        let mut book = vec![u8::MAX; 1_000];
+        desk.write(&mut book);
+        (answer, lists, book)
+    }
+
+    /// Lists of events, at grades of the tables and next to them.
+    #[test]
+    fn events_agree_on_random_tables() {
+        let mut random = Random::of_seed(8);
+        for course in [EVERY_COURSE; 4].concat() {
+            let tables = [course.table(&mut random), course.table(&mut random)];
+            let book = reference::book::write(&tables.each_ref());
+            let (mut proved, mut optimised) = (loaded::<proved::Desk>(&book), loaded::<plain::Desk>(&book));
+            let mut reference = loaded::<ReferenceDesk>(&book);
+            for _ in 0..30 {
+                let (event, place) = (random.pick(&EVERY_EVENT), random.between(0, 3) as u32);
+                let grade = random.between(0, tables[0].grades.len() as u64 + 1) as u32;
+                let expected = booked(&mut reference, event, place, grade);
+                assert_eq!(booked(&mut proved, event, place, grade), expected, "proved: {tables:?}");
+                assert_eq!(booked(&mut optimised, event, place, grade), expected, "optimised: {tables:?}");
+            }
         }
     }
 
