@@ -313,7 +313,9 @@ mod tests {
     #[test]
     fn events_are_as_named() {
         for case in events() {
-            let Call::Event { event, grade } = case.call else { unreachable!("all are events") };
+            let Call::Event { event, grade } = case.call else {
+                unreachable!("all are events")
+            };
             let expected = match case.shape {
                 "40 blocks" => 40..=40,
                 "one block" => 1..=1,

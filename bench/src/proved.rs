@@ -1,9 +1,9 @@
 //! The proved library, through the C interface of `bindings/rust`, with refusal numbers for errors.
 
 use desk::sys;
-use reference::events::Event;
 pub use desk::sys::{Desk, Verdict};
 pub use desk::{Cutoff, Fraction, Measures, Spread};
+use reference::events::Event;
 
 /// Makes a call that fills an answer.
 #[inline(always)]

@@ -58,8 +58,8 @@ impl Rows {
         self.obligors[i] - self.defaults[i]
     }
 
-    /// N. Behind the grades are zeros.
+    /// N.
     fn total(&self) -> u32 {
-        self.obligors.iter().sum()
+        self.obligors[..self.grades].iter().sum()
     }
 }
