@@ -90,6 +90,6 @@ class Contents:
     def documents(self) -> Iterator[Entry]:
         for name in DOCUMENTS:
             yield Entry(f'share/doc/desk/{os.path.basename(name)}', self.read(name))
-        for pattern in ('*.csv', '**/*.book'):
+        for pattern in ('**/*.csv', '**/*.book'):
             for name in self.matching('examples', pattern):
                 yield Entry(f'share/doc/desk/examples/{name}', self.read(f'examples/{name}'))
