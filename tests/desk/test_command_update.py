@@ -23,11 +23,10 @@ from sheets import CALLS, HEADER, Change, Fault, after, random_change, random_sh
 from shapes import Shapes  # noqa: E402
 from test_command_damaged import rows_of  # noqa: E402
 import printed  # noqa: E402
+from desk.refusals import MEANINGS  # noqa: E402
 
 MONDAY = example('monday/inhouse.csv')
 ROWS = [(120, 2, 1000), (0, 0, 5000), (60, 9, 90000), (3, 3, 900000)]
-MEANINGS = {36: 'grade outside the table', 37: "grade without such a firm, or a leaving or removal of the table's last obligor",
-            38: 'entry beyond 1,000,000 (obligors of the table)'}
 REFUSED = re.compile(r'desk: refused (\d+): (.*?); (.*), line (\d+): (\w+)(?: [^:(]*?)?(?: \(the (\d+)(?:st|nd|rd|th) of (\d+)\))?: (.*)')
 LEFT_OUT = '. The refused lines before it are left out'
 
