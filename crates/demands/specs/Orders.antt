@@ -59,9 +59,12 @@ noSurvivor = row 3 3 ∷ []
 abbrev pub twoDefaulted : Table
 twoDefaulted = row 2 2 ∷ []
 
--- R-8: an empty grade, and one with as many obligors as a table may have
+-- R-8: an empty grade, and one with as many obligors as a table may have; a table with one obligor
 abbrev pub crowded : Table
 crowded = empty ∷ row 1_000_000 4 ∷ []
+
+abbrev pub lone : Table
+lone = row 1 0 ∷ []
 
 -- a row for each of the four events
 abbrev pub EachEvent : (Event → Type 0) → Type 0
@@ -267,10 +270,12 @@ pub record Orders : Type 0 where
   pub shortlist-25-before-13-defaults : listing (coarse ∷ otherDefaults ∷ []) [] ≡ 25
   pub shortlist-25-before-13-survivors : listing (coarse ∷ otherSurvivors ∷ []) [] ≡ 25
   -- R-8: "After 1 and 22 come 36 .., 37 .. and 38": a grade below and above those of the table. In `crowded` no firm can leave, default or be
-  -- removed at grade 1 nor at grade 3, which is none, and none can enter.
+  -- removed at grade 1 nor at grade 3, which is none, and none can enter. The one obligor of `lone` is its last.
   pub event-1-before-22-below : EachEvent (λ e. numberOf freshDesk (change 0 (event e 1)) ≡ 1)
   pub event-1-before-22-above : EachEvent (λ e. numberOf freshDesk (change 3 (event e 1)) ≡ 1)
   pub event-22-before-36-below : EachEvent (λ e. numberOf freshDesk (change 1 (event e 0)) ≡ 22)
   pub event-22-before-36-above : EachEvent (λ e. numberOf freshDesk (change 1 (event e 1)) ≡ 22)
   pub event-36-before-37-and-38-below : EachEvent (λ e. numberOf (inFirst crowded) (change 1 (event e 0)) ≡ 36)
   pub event-36-before-37-and-38-above : EachEvent (λ e. numberOf (inFirst crowded) (change 1 (event e 3)) ≡ 36)
+  pub event-36-before-37-last-below : EachEvent (λ e. numberOf (inFirst lone) (change 1 (event e 0)) ≡ 36)
+  pub event-36-before-37-last-above : EachEvent (λ e. numberOf (inFirst lone) (change 1 (event e 2)) ≡ 36)

@@ -140,6 +140,8 @@ rows = record {
   event-22-before-36-above = (refl, refl, refl, refl);
   event-36-before-37-and-38-below = (refl, refl, refl, refl);
   event-36-before-37-and-38-above = (refl, refl, refl, refl);
+  event-36-before-37-last-below = (refl, refl, refl, refl);
+  event-36-before-37-last-above = (refl, refl, refl, refl);
 }
 
 pub orders-spec : {M : Type 1} → statement M
