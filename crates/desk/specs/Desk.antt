@@ -29,7 +29,8 @@ tableAt d i = tableOf (placeAt d i)
 abbrev pub withPlace : Desk → ℕ → PooledPlace → Desk
 withPlace d i p = cond (eqb i 1) (record { first = p; second = d .second }) (record { first = d .first; second = p })
 
--- The one thing that a contract requires of a desk: each place is empty or holds a table with its pooled list. `EveryDeskIsSound` shows that calls imply it.
+-- The one thing that a contract requires of a desk: each place is empty or holds a table with its pooled list. `EveryDeskIsSound` shows that calls
+-- imply it.
 pub record SoundDesk (d : Desk) : Type 0 where
   pub first : SoundPooledPlace (d .first)
   pub second : SoundPooledPlace (d .second)

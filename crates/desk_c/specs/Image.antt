@@ -1,4 +1,5 @@
--- The image of a desk: the words of its two places, each with its pooled list, 484 numbers of 4 bytes in the caller's memory, as include/desk.h lays them out.
+-- The image of a desk: the words of its two places, each with its pooled list, 484 numbers of 4 bytes in the caller's memory, as include/desk.h lays
+-- them out.
 use Prim.Native.Nat.{ℕ}
 use mathlib.Core.Path.{_≡_}
 use mathlib.Core.List.{List, _++_}

@@ -9,13 +9,13 @@ use lib.ListN.{length, take, drop, replicate, length-append, length-replicate, l
 use lib.Seq.{paste, take-all, take-at, drop-at, take-take, getD-take, length-take-le}
 use Rattle.table.specs.declared.Place.{Place}
 use Rattle.table.specs.Table.{Table, Sound}
-use Rattle.table.specs.Place.{tableOf, placeOf, SoundPlace}
+use Rattle.table.specs.Place.{tableOf, SoundPlace}
 use Rattle.table.specs.Place as place
-use Rattle.table.specs.Words.{placeSize, wordsOf, columnIn, placeIn, tableIn, HoldsTable, IsPlace}
+use Rattle.table.specs.Words.{placeSize, wordsOf, columnIn, placeIn, tableIn, HoldsTable}
 use Rattle.table.proofs.Placed.{table-placed, placed-loaded}
 use Rattle.table.proofs.Pastes.{paste-behind}
 use Rattle.table.proofs.Suffix.{length-grades}
-use Rattle.table.proofs.Words.{long-place, words-length, place-back, is-place}
+use Rattle.table.proofs.Words.{long-place, words-length, place-back}
 use Rattle.pooling.proofs.Written.{length-pooled}
 use Rattle.pooled_place.specs.declared.PooledPlace.{PooledPlace}
 use Rattle.pooled_place.specs.PooledPlace.{noList, listOf, freshPooledPlace, pooledPlaceOf, SoundPooledPlace, empty, holds}
@@ -95,11 +95,6 @@ module _ {w : List ℕ} (i : IsPooledPlace w) where
   pub long-pooled : length w ≡ pooledPlaceSize
   long-pooled = ap length (i .exact) ∙ pooled-place-length (i .sound)
 
-  pub counts-place : IsPlace (countsIn w)
-  counts-place =
-      let e : countsIn w ≡ wordsOf (placeIn w) = ap (λ (x : List ℕ). countsIn x) (i .exact) ∙ counts-read (i .sound) in
-      rw e (is-place (sound-place (i .sound)))
-
 loaded-holds : {k : PooledPlace} → SoundPooledPlace k → k .place .loaded ≡ true → (Sound (tableOf (k .place))) × (k ≡ pooledPlaceOf (tableOf (k .place)))
 loaded-holds empty h = let z : _≡_ {A = ℕ} 0 1 = cc in absurd (omega arith)
 loaded-holds (holds t s) h = (rw (table-placed t) s, rw (table-placed t) refl)
@@ -122,9 +117,6 @@ module _ {w : List ℕ} (h : HoldsPooledTable w) where
 
   pub held-list : listIn w ≡ listOf (tableIn w)
   held-list = ap (λ (x : List ℕ). listIn x) (h .exact) ∙ list-read (holds (tableIn w) (h .sound))
-
-  pub held-counts : countsIn w ≡ wordsOf (placeOf (tableIn w))
-  held-counts = ap (λ (x : List ℕ). countsIn x) (h .exact) ∙ counts-read (holds (tableIn w) (h .sound))
 
   pub held-table : HoldsTable (countsIn w)
   held-table = counts-hold w held-length (h .sound)
