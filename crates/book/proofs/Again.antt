@@ -8,16 +8,16 @@ use native.Mathlib.Omega.{arith}
 use lib.ListN.{length, drop}
 use lib.Seq.{drop-cons, drop-length}
 use Rattle.table.specs.Table.{Every}
-use Rattle.book.specs.Bytes.{Byte, byte_at, twoAt, fourAt, twoBytes, fourBytes}
+use Rattle.book.specs.Bytes.{Byte, byte_at, two_at_lem, four_at_lem, two_bytes, four_bytes}
 use Rattle.book.specs.Checks.{equal, fault}
-use Rattle.book.specs.Layout.{raters, start_of, gradesAt, kind_at, end_of, firstStart, leftoverFault}
-use Rattle.book.specs.Layout.{headChecks, tableChecks, tablesFaultFrom, layoutFault}
-use Rattle.book.specs.Rows.{gradeIn, gradesIn, tableFrom, tablesIn}
-use Rattle.book.specs.Encode.{encodeGrade, encodeGrades, encodeTable, size_of, encodeTables, offsets, ends_at, encode}
+use Rattle.book.specs.Layout.{raters, start_of, grades_at, kind_at, end_of, first_start, leftover_fault}
+use Rattle.book.specs.Layout.{head_checks, table_checks, tables_fault_from, layout_fault}
+use Rattle.book.specs.Rows.{grade_in, grades_in, table_from, tables_in}
+use Rattle.book.specs.Encode.{encode_grade, encode_grades, encode_table, size_of, encode_tables, offsets, ends_at, encode}
 use Rattle.book.proofs.Checks.{held, held_first}
-use Rattle.book.proofs.Rows.{length-rows}
+use Rattle.book.proofs.Rows.{length_rows}
 use Rattle.book.proofs.Books.{header}
-use Rattle.book.proofs.Whole.{count-tables}
+use Rattle.book.proofs.Whole.{count_tables}
 
 byte : (b : List ℕ) (i : ℕ) → Every Byte b → byte_at b i < 256
 byte [] i h = omega arith
@@ -34,123 +34,123 @@ digits k x y h = (
 -- Each part of a book, from i to j, is the bytes of what is read there.
 
 module _ (b : List ℕ) (h : Every Byte b) where
-  two-small : (i : ℕ) → twoAt b i < 65_536
-  unfolding twoAt
-  two-small i = omega (arith, byte b i h, byte b (i + 1) h)
+  two_small : (i : ℕ) → two_at_lem b i < 65_536
+  unfolding two_at_lem
+  two_small i = omega (arith, byte b i h, byte b (i + 1) h)
 
-  two-again : (i j : ℕ) → j ≡ i + 2 → j ≤ length b → drop i b ≡ twoBytes (twoAt b i) ++ drop j b
-  unfolding twoAt twoBytes
-  two-again i j e l =
+  two_again : (i j : ℕ) → j ≡ i + 2 → j ≤ length b → drop i b ≡ two_bytes (two_at_lem b i) ++ drop j b
+  unfolding two_at_lem two_bytes
+  two_again i j e l =
       let d = digits 256 (byte_at b i) (byte_at b (i + 1)) (byte b i h) in
       let high = mod-eq_of_lt (byte b (i + 1) h) in
       let f : j ≡ suc (suc i) = omega arith in
       drop-cons b i 0 (omega arith) ∙ rw (drop-cons b (suc i) 0 (omega arith), d.0, d.1, high, add-one i, f)
 
-  four-again : (i j : ℕ) → j ≡ i + 4 → j ≤ length b → drop i b ≡ fourBytes (fourAt b i) ++ drop j b
-  unfolding fourAt fourBytes
-  four-again i j e l =
-      let d = digits 65_536 (twoAt b i) (twoAt b (i + 2)) (two-small i) in
-      two-again i (i + 2) refl (omega arith)
-      ∙ rw (two-again (i + 2) j (omega arith) l, d.0, d.1, append_assoc (twoBytes (twoAt b i)))
+  four_again : (i j : ℕ) → j ≡ i + 4 → j ≤ length b → drop i b ≡ four_bytes (four_at_lem b i) ++ drop j b
+  unfolding four_at_lem four_bytes
+  four_again i j e l =
+      let d = digits 65_536 (two_at_lem b i) (two_at_lem b (i + 2)) (two_small i) in
+      two_again i (i + 2) refl (omega arith)
+      ∙ rw (two_again (i + 2) j (omega arith) l, d.0, d.1, append_assoc (two_bytes (two_at_lem b i)))
 
-  grade-again : (i j : ℕ) → j ≡ i + 12 → j ≤ length b → drop i b ≡ encodeGrade (gradeIn b 0 i) ++ drop j b
-  unfolding gradeIn encodeGrade
-  grade-again i j e l =
-      four-again i (i + 4) refl (omega arith)
-      ∙ rw (four-again (i + 4) (i + 8) (omega arith) (omega arith), four-again (i + 8) j (omega arith) l) (simp append_assoc)
+  grade_again : (i j : ℕ) → j ≡ i + 12 → j ≤ length b → drop i b ≡ encode_grade (grade_in b 0 i) ++ drop j b
+  unfolding grade_in encode_grade
+  grade_again i j e l =
+      four_again i (i + 4) refl (omega arith)
+      ∙ rw (four_again (i + 4) (i + 8) (omega arith) (omega arith), four_again (i + 8) j (omega arith) l) (simp append_assoc)
 
-  rows-again : (k i j : ℕ) → j ≡ i + 12 * k → j ≤ length b → drop i b ≡ encodeGrades (gradesIn b 0 k i) ++ drop j b
-  unfolding gradesIn encodeGrades
-  rows-again zero i j e l = let f : i ≡ j = omega arith in rw f
-  rows-again (suc k) i j e l =
-      grade-again i (i + 12) refl (omega arith)
-      ∙ rw (rows-again k (i + 12) j (omega arith) l, append_assoc (encodeGrade (gradeIn b 0 i)))
+  rows_again : (k i j : ℕ) → j ≡ i + 12 * k → j ≤ length b → drop i b ≡ encode_grades (grades_in b 0 k i) ++ drop j b
+  unfolding grades_in encode_grades
+  rows_again zero i j e l = let f : i ≡ j = omega arith in rw f
+  rows_again (suc k) i j e l =
+      grade_again i (i + 12) refl (omega arith)
+      ∙ rw (rows_again k (i + 12) j (omega arith) l, append_assoc (encode_grade (grade_in b 0 i)))
 
-  table-again : (i : ℕ) → gradesAt b i ≤ 40 → kind_at b i ≡ 0 → twoAt b (i + 2) ≡ 0 → end_of b i ≤ length b
-      → drop i b ≡ encodeTable (tableFrom b i) ++ drop (end_of b i) b
-  unfolding twoAt
-  table-again i few kind zeros l =
-      let n = gradesAt b i in
-      let e : twoAt b i ≡ n = omega arith in
-      let t = gradesIn b 0 n (i + 4) in
-      two-again i (i + 2) refl (omega arith)
+  table_again : (i : ℕ) → grades_at b i ≤ 40 → kind_at b i ≡ 0 → two_at_lem b (i + 2) ≡ 0 → end_of b i ≤ length b
+      → drop i b ≡ encode_table (table_from b i) ++ drop (end_of b i) b
+  unfolding two_at_lem
+  table_again i few kind zeros l =
+      let n = grades_at b i in
+      let e : two_at_lem b i ≡ n = omega arith in
+      let t = grades_in b 0 n (i + 4) in
+      two_again i (i + 2) refl (omega arith)
       ∙ rw (
         e,
-        two-again (i + 2) (i + 4) (omega arith) (omega arith),
+        two_again (i + 2) (i + 4) (omega arith) (omega arith),
         zeros,
-        rows-again n (i + 4) (end_of b i) refl l,
+        rows_again n (i + 4) (end_of b i) refl l,
         kind,
-        ← header t n (length-rows b 0 n (i + 4)) few,
+        ← header t n (length_rows b 0 n (i + 4)) few,
       )
       (simp append_assoc)
 
 -- What the checks of the table of rater j say, where the one before ended at `at`.
 record Here (b : List ℕ) (j at : ℕ) : Type 0 where
   pub start : start_of b j ≡ at
-  pub few : gradesAt b at ≤ 40
-  pub zeros : twoAt b (at + 2) ≡ 0
+  pub few : grades_at b at ≤ 40
+  pub zeros : two_at_lem b (at + 2) ≡ 0
   pub inside : end_of b at ≤ length b
-  pub size : at + size_of (tableFrom b at) ≡ end_of b at
+  pub size : at + size_of (table_from b at) ≡ end_of b at
 
-here : (b : List ℕ) (j at : ℕ) → fault (tableChecks b j at) ≡ 0 → Here b j at
-unfolding tableChecks
+here : (b : List ℕ) (j at : ℕ) → fault (table_checks b j at) ≡ 0 → Here b j at
+unfolding table_checks
 here b j at e =
-    let h = held (tableChecks b j at) e in
+    let h = held (table_checks b j at) e in
     record {
       start = h.0;
       few = omega arith;
       zeros = omega arith;
       inside = omega arith;
-      size = omega (arith, length-rows b (kind_at b at) (gradesAt b at) (at + 4));
+      size = omega (arith, length_rows b (kind_at b at) (grades_at b at) (at + 4));
     }
 
-ends-again : (b : List ℕ) (k j at : ℕ) → tablesFaultFrom b k j at ≡ 0 → ends_at at (tablesIn b j k) ≡ length b
-unfolding tablesFaultFrom tablesIn ends_at
-ends-again b zero j at e = (held (equal at (length b) leftoverFault ∷ []) e).0
-ends-again b (suc k) j at e =
+ends_again : (b : List ℕ) (k j at : ℕ) → tables_fault_from b k j at ≡ 0 → ends_at at (tables_in b j k) ≡ length b
+unfolding tables_fault_from tables_in ends_at
+ends_again b zero j at e = (held (equal at (length b) leftover_fault ∷ []) e).0
+ends_again b (suc k) j at e =
     let f = held_first _ _ e in
     let t = here b j at f.0 in
-    rw (t.start, t.size) (ends-again b k (suc j) (end_of b at) f.1)
+    rw (t.start, t.size) (ends_again b k (suc j) (end_of b at) f.1)
 
 module _ (b : List ℕ) (h : Every Byte b) where
-  offsets-again : (k j at : ℕ) → tablesFaultFrom b k j at ≡ 0 → 2 + 2 * (j + k) ≤ length b
-      → drop (2 + 2 * j) b ≡ offsets at (tablesIn b j k) ++ drop (2 + 2 * (j + k)) b
-  unfolding tablesFaultFrom tablesIn offsets
-  offsets-again zero j at e l = rw add-zero
-  offsets-again (suc k) j at e l =
+  offsets_again : (k j at : ℕ) → tables_fault_from b k j at ≡ 0 → 2 + 2 * (j + k) ≤ length b
+      → drop (2 + 2 * j) b ≡ offsets at (tables_in b j k) ++ drop (2 + 2 * (j + k)) b
+  unfolding tables_fault_from tables_in offsets
+  offsets_again zero j at e l = rw add-zero
+  offsets_again (suc k) j at e l =
       let f = held_first _ _ e in
       let t = here b j at f.0 in
       let n : j + suc k ≡ suc j + k = omega arith in
-      two-again b h (2 + 2 * j) (2 + 2 * suc j) (omega arith) (omega arith)
-      ∙ rw (t.start, t.size, n, offsets-again k (suc j) (end_of b at) f.1 (omega arith)) (simp append_assoc)
+      two_again b h (2 + 2 * j) (2 + 2 * suc j) (omega arith) (omega arith)
+      ∙ rw (t.start, t.size, n, offsets_again k (suc j) (end_of b at) f.1 (omega arith)) (simp append_assoc)
 
-  tables-again : (k j at : ℕ) → tablesFaultFrom b k j at ≡ 0 → ((i : ℕ) → j ≤ i → i < j + k → kind_at b (start_of b i) ≡ 0)
-      → drop at b ≡ encodeTables (tablesIn b j k)
-  unfolding tablesFaultFrom tablesIn encodeTables
-  tables-again zero j at e kinds = rw (held (equal at (length b) leftoverFault ∷ []) e).0 (drop-length b)
-  tables-again (suc k) j at e kinds =
+  tables_again : (k j at : ℕ) → tables_fault_from b k j at ≡ 0 → ((i : ℕ) → j ≤ i → i < j + k → kind_at b (start_of b i) ≡ 0)
+      → drop at b ≡ encode_tables (tables_in b j k)
+  unfolding tables_fault_from tables_in encode_tables
+  tables_again zero j at e kinds = rw (held (equal at (length b) leftover_fault ∷ []) e).0 (drop-length b)
+  tables_again (suc k) j at e kinds =
       let f = held_first _ _ e in
       let t = here b j at f.0 in
       let kind : kind_at b at ≡ 0 = rw t.start at (kinds j (omega arith) (omega arith)) in
-      table-again b h at t.few kind t.zeros t.inside
-      ∙ rw (t.start, tables-again k (suc j) (end_of b at) f.1 (λ i from to. kinds i (omega arith) (omega arith)))
+      table_again b h at t.few kind t.zeros t.inside
+      ∙ rw (t.start, tables_again k (suc j) (end_of b at) f.1 (λ i from to. kinds i (omega arith) (omega arith)))
 
-  pub written-again : layoutFault b ≡ 0 → ((j : ℕ) → 1 ≤ j → j ≤ raters b → kind_at b (start_of b j) ≡ 0) → encode (tablesIn b 1 (raters b)) ≡ b
-  unfolding layoutFault headChecks encode
-  written-again e kinds =
+  pub written_again : layout_fault b ≡ 0 → ((j : ℕ) → 1 ≤ j → j ≤ raters b → kind_at b (start_of b j) ≡ 0) → encode (tables_in b 1 (raters b)) ≡ b
+  unfolding layout_fault head_checks encode
+  written_again e kinds =
       let f = held_first _ _ e in
-      let c = held (headChecks b) f.0 in
-      let ts = tablesIn b 1 (raters b) in
-      let n = count-tables b 1 (raters b) in
-      let size = ends-again b (raters b) 1 (firstStart b) f.1 in
-      let first : 2 + 2 * (1 + raters b) ≡ firstStart b = omega arith in
-      let parts : b ≡ twoBytes (raters b) ++ (twoBytes (length b) ++ (offsets (firstStart b) ts ++ encodeTables ts)) =
-      two-again b h 0 2 refl (omega arith)
+      let c = held (head_checks b) f.0 in
+      let ts = tables_in b 1 (raters b) in
+      let n = count_tables b 1 (raters b) in
+      let size = ends_again b (raters b) 1 (first_start b) f.1 in
+      let first : 2 + 2 * (1 + raters b) ≡ first_start b = omega arith in
+      let parts : b ≡ two_bytes (raters b) ++ (two_bytes (length b) ++ (offsets (first_start b) ts ++ encode_tables ts)) =
+      two_again b h 0 2 refl (omega arith)
       ∙ rw (
-        two-again b h 2 4 refl (omega arith),
+        two_again b h 2 4 refl (omega arith),
         c.1.0,
-        offsets-again (raters b) 1 (firstStart b) f.1 (omega arith),
+        offsets_again (raters b) 1 (first_start b) f.1 (omega arith),
         first,
-        tables-again (raters b) 1 (firstStart b) f.1 (λ i from to. kinds i from (omega arith)),
+        tables_again (raters b) 1 (first_start b) f.1 (λ i from to. kinds i from (omega arith)),
       ) in
       rw (n, size) (sym parts)

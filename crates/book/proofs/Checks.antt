@@ -7,7 +7,7 @@ use native.Mathlib.Decide.{dec_le, ℕ_discrete}
 use native.Mathlib.Omega.{arith}
 use borrow.Author.Tests.{le-leb, lt-leb, eq-eqb, ne_eqb, leb-true, eqb-true}
 use lib.Dec.{leb, eqb}
-use Rattle.book.specs.Checks.{Check, at_most, equal, fault, firstFault}
+use Rattle.book.specs.Checks.{Check, at_most, equal, fault, first_fault}
 
 -- how the first fault is found
 pub data Finds : List Check → ℕ → Type 0 where
@@ -56,23 +56,23 @@ held (at_most a b (suc n) ∷ l) e = let s = split (leb a b) (fault l) n e in (l
 held (equal a b zero ∷ l) e = tt
 held (equal a b (suc n) ∷ l) e = let s = split (eqb a b) (fault l) n e in (eqb-true a b s.0, held l s.1)
 
-pub first-none : (n m : ℕ) → n ≡ 0 → firstFault n m ≡ m
-unfolding firstFault
-first-none n m h = rw h
+pub first_none : (n m : ℕ) → n ≡ 0 → first_fault n m ≡ m
+unfolding first_fault
+first_none n m h = rw h
 
-pub first_some : (n m : ℕ) → (n ≡ 0 → ⊥) → firstFault n m ≡ n
-unfolding firstFault
+pub first_some : (n m : ℕ) → (n ≡ 0 → ⊥) → first_fault n m ≡ n
+unfolding first_fault
 first_some zero m h = absurd (h refl)
 first_some (suc n) m h = refl
 
 -- how the first of two faults is found
-pub stop : {n m : ℕ} (rest : ℕ) → n ≡ m → (n ≡ 0 → ⊥) → n ≡ firstFault m rest
+pub stop : {n m : ℕ} (rest : ℕ) → n ≡ m → (n ≡ 0 → ⊥) → n ≡ first_fault m rest
 stop rest e k = rw (← e) (sym (first_some _ rest k))
 
-pub go : {n m rest : ℕ} → m ≡ 0 → n ≡ rest → n ≡ firstFault m rest
-go z e = e ∙ sym (first-none _ _ z)
+pub go : {n m rest : ℕ} → m ≡ 0 → n ≡ rest → n ≡ first_fault m rest
+go z e = e ∙ sym (first_none _ _ z)
 
-pub held_first : (n m : ℕ) → firstFault n m ≡ 0 → (n ≡ 0) × (m ≡ 0)
-unfolding firstFault
+pub held_first : (n m : ℕ) → first_fault n m ≡ 0 → (n ≡ 0) × (m ≡ 0)
+unfolding first_fault
 held_first zero m h = (refl, h)
 held_first (suc n) m h = absurd (omega arith)

@@ -5,35 +5,35 @@ use mathlib.Core.List.{List, [], ◌∷◌}
 use native.Mathlib.Omega.{arith}
 use lib.ListN.{length}
 use Rattle.table.specs.Table.{Table, occupied}
-use Rattle.book.specs.Layout.{raters, layoutFault}
-use Rattle.book.specs.Rows.{tableOfRater, rowChecks, laterChecks, rowsFault, totalChecks, tableFault}
-use Rattle.book.specs.Reading.{readFault}
+use Rattle.book.specs.Layout.{raters, layout_fault}
+use Rattle.book.specs.Rows.{table_of_rater, row_checks, later_checks, rows_fault, total_checks, table_fault_lem}
+use Rattle.book.specs.Reading.{read_fault}
 use Rattle.book.proofs.Checks.{Finds, found, none, pass, over, finds, go}
-use Rattle.book.proofs.Accept.{rows-decide}
-use Rattle.book.proofs.Numbers.{allPass, isOther, rows_pass, past, past-layout}
+use Rattle.book.proofs.Accept.{rows_decide}
+use Rattle.book.proofs.Numbers.{all_pass, is_other, rows_pass, past, past_layout}
 
-pub empty-told : (b : List ℕ) (j : ℕ) → layoutFault b ≡ 0 → 1 ≤ j → j ≤ raters b
-    → rowsFault (tableOfRater b j) ≡ 0 → occupied (tableOfRater b j) ≡ [] → readFault b j ≡ 9
-unfolding tableFault totalChecks
-empty-told b j e some few rows none_here =
-    let n : length (occupied (tableOfRater b j)) ≡ 0 = ap (λ (t : Table). length t) none_here in
-    sym (rows-decide b j e some few) ∙ sym (go rows (found (over (omega arith))))
+pub empty_told : (b : List ℕ) (j : ℕ) → layout_fault b ≡ 0 → 1 ≤ j → j ≤ raters b
+    → rows_fault (table_of_rater b j) ≡ 0 → occupied (table_of_rater b j) ≡ [] → read_fault b j ≡ 9
+unfolding table_fault_lem total_checks
+empty_told b j e some few rows none_here =
+    let n : length (occupied (table_of_rater b j)) ≡ 0 = ap (λ (t : Table). length t) none_here in
+    sym (rows_decide b j e some few) ∙ sym (go rows (found (over (omega arith))))
 
 -- No other check has the number 9.
 
-no-grade : (t : Table) → length t < 1 → t ≡ []
-no-grade [] h = refl
-no-grade (r ∷ t) h = absurd (omega arith)
+no_grade : (t : Table) → length t < 1 → t ≡ []
+no_grade [] h = refl
+no_grade (r ∷ t) h = absurd (omega arith)
 
-total-means : (t : Table) (n : ℕ) → Finds (totalChecks t) n → n ≡ 9 → occupied t ≡ []
-unfolding totalChecks
-total-means t n (pass some (pass few none)) e = absurd (omega arith)
-total-means t n (pass some (over many)) e = absurd (omega arith)
-total-means t n (over few) e = no-grade (occupied t) few
+total_means : (t : Table) (n : ℕ) → Finds (total_checks t) n → n ≡ 9 → occupied t ≡ []
+unfolding total_checks
+total_means t n (pass some (pass few none)) e = absurd (omega arith)
+total_means t n (pass some (over many)) e = absurd (omega arith)
+total_means t n (over few) e = no_grade (occupied t) few
 
-pub nine-means : (b : List ℕ) (j : ℕ) → readFault b j ≡ 9 → (rowsFault (tableOfRater b j) ≡ 0) × (occupied (tableOfRater b j) ≡ [])
-unfolding tableFault rowChecks laterChecks allPass
-nine-means b j e =
-    let t = tableOfRater b j in
-    let rows = past (isOther 9) _ _ 9 (rows_pass (isOther 9) tt (λ p g. tt) t) (λ h. h) (past-layout b j 9 (λ h. h) e).table in
-    (rows.0, total-means t _ (finds (totalChecks t)) rows.1)
+pub nine_means : (b : List ℕ) (j : ℕ) → read_fault b j ≡ 9 → (rows_fault (table_of_rater b j) ≡ 0) × (occupied (table_of_rater b j) ≡ [])
+unfolding table_fault_lem row_checks later_checks all_pass
+nine_means b j e =
+    let t = table_of_rater b j in
+    let rows = past (is_other 9) _ _ 9 (rows_pass (is_other 9) tt (λ p g. tt) t) (λ h. h) (past_layout b j 9 (λ h. h) e).table in
+    (rows.0, total_means t _ (finds (total_checks t)) rows.1)

@@ -9,13 +9,13 @@ use Rattle.table.specs.Table.{Table, Grade}
 use Rattle.table.specs.Place.{fresh, column, place_of}
 use Rattle.table.specs.Words.{words_of}
 use Rattle.table.proofs.Placed.{length-column}
-use Rattle.book.specs.Private.{stored, wordsAfter}
+use Rattle.book.specs.Private.{stored, words_after_lem}
 
 -- Columns.
 
 -- three columns in one list, from 0, 40 and 80 on, in which those of a table were stored from grade i on
-abbrev pub columnsAfter : List ℕ → ℕ → Table → List ℕ
-columnsAfter w i t = stored (stored (stored w i (map (λ g. g.obligors) t)) (40 + i) (map (λ g. g.defaults) t)) (80 + i) (map (λ g. g.announced) t)
+abbrev pub columns_after : List ℕ → ℕ → Table → List ℕ
+columns_after w i t = stored (stored (stored w i (map (λ g. g.obligors) t)) (40 + i) (map (λ g. g.defaults) t)) (80 + i) (map (λ g. g.announced) t)
 
 -- a number behind a stored list, stored before or after it
 stored-set : (v l : List ℕ) (at k x : ℕ) → at + length v ≤ k → stored (set l k x) at v ≡ set (stored l at v) k x
@@ -47,10 +47,10 @@ row-stored w os ds ps i x y z h k =
 abbrev zeros : List ℕ
 zeros = replicate 40 0
 
-drop-zeros : (n k : ℕ) → drop {A = ℕ} k (replicate n 0) ≡ replicate (n - k) 0
-drop-zeros n zero = let e : n - 0 ≡ n = omega arith in rw e refl
-drop-zeros zero (suc k) = let e : 0 - suc k ≡ 0 = omega arith in rw e refl
-drop-zeros (suc n) (suc k) = let e : suc n - suc k ≡ n - k = omega arith in rw e (drop-zeros n k)
+drop_zeros : (n k : ℕ) → drop {A = ℕ} k (replicate n 0) ≡ replicate (n - k) 0
+drop_zeros n zero = let e : n - 0 ≡ n = omega arith in rw e refl
+drop_zeros zero (suc k) = let e : 0 - suc k ≡ 0 = omega arith in rw e refl
+drop_zeros (suc n) (suc k) = let e : suc n - suc k ≡ n - k = omega arith in rw e (drop_zeros n k)
 
 -- one column, over the zeros behind p
 over_zeros : (p r : List ℕ) (at : ℕ) (f : Grade → ℕ) (t : Table) → length p ≡ at → length t ≤ 40
@@ -68,7 +68,7 @@ over_zeros p r at f t e few =
     sym (drop-drop (length v) at l)
     ∙ ap (λ (x : List ℕ). drop (length v) x) (ap (drop at) a ∙ drop_at p (zeros ++ r) at e)
     ∙ drop-append-le (length v) zeros r (omega arith)
-    ∙ ap (λ (x : List ℕ). x ++ r) (drop-zeros 40 (length v) ∙ ap (λ (i : ℕ). replicate (40 - i) 0) m) in
+    ∙ ap (λ (x : List ℕ). x ++ r) (drop_zeros 40 (length v) ∙ ap (λ (i : ℕ). replicate (40 - i) 0) m) in
     sets-eq v l at (omega arith)
     ∙ ap (λ (x : List ℕ). x ++ v ++ drop (at + length v) l) front
     ∙ ap (λ (x : List ℕ). p ++ v ++ x) back
@@ -88,14 +88,14 @@ module _ (t : Table) (few : length t ≤ 40) where
   abbrev all : List ℕ
   all = o ++ d ++ a
 
-  two-long : length (o ++ d) ≡ 80
-  two-long = rw (length-append, length-column (λ g. g.obligors) t few, length-column (λ g. g.defaults) t few) refl
+  two_long : length (o ++ d) ≡ 80
+  two_long = rw (length-append, length-column (λ g. g.obligors) t few, length-column (λ g. g.defaults) t few) refl
 
-  all-long : length all ≡ 120
-  all-long = rw (length-append, two-long, length-column (λ g. g.announced) t few) refl
+  all_long : length all ≡ 120
+  all_long = rw (length-append, two_long, length-column (λ g. g.announced) t few) refl
 
-  columns-stored : (r : List ℕ) → columnsAfter (zeros ++ zeros ++ zeros ++ r) 0 t ≡ all ++ r
-  columns-stored r =
+  columns_stored : (r : List ℕ) → columns_after (zeros ++ zeros ++ zeros ++ r) 0 t ≡ all ++ r
+  columns_stored r =
       rw (
         append_assoc (zeros ++ zeros) zeros r,
         append_assoc zeros zeros (zeros ++ r),
@@ -104,19 +104,19 @@ module _ (t : Table) (few : length t ≤ 40) where
         over_zeros o (zeros ++ r) 40 (λ g. g.defaults) t (length-column (λ g. g.obligors) t few) few,
         sym (append_assoc (o ++ d) zeros r),
       )
-      (over_zeros (o ++ d) r 80 (λ g. g.announced) t two-long few)
+      (over_zeros (o ++ d) r 80 (λ g. g.announced) t two_long few)
 
-  pub place-filled : (n : ℕ) → n ≡ length t → set (set (columnsAfter (words_of fresh) 0 t) 120 n) 121 1 ≡ words_of (place_of t)
+  pub place_filled : (n : ℕ) → n ≡ length t → set (set (columns_after (words_of fresh) 0 t) 120 n) 121 1 ≡ words_of (place_of t)
   unfolding place_of
-  place-filled n e =
-      let next : length (all ++ (n ∷ [])) ≡ 121 = rw (length-append, all-long) refl in
-      ap (λ (x : List ℕ). set (set x 120 n) 121 1) (columns-stored (0 ∷ 0 ∷ []))
-      ∙ ap (λ (x : List ℕ). set x 121 1) (set_at all 0 (0 ∷ []) n 120 all-long ∙ sym (append_assoc all (n ∷ []) (0 ∷ [])))
+  place_filled n e =
+      let next : length (all ++ (n ∷ [])) ≡ 121 = rw (length-append, all_long) refl in
+      ap (λ (x : List ℕ). set (set x 120 n) 121 1) (columns_stored (0 ∷ 0 ∷ []))
+      ∙ ap (λ (x : List ℕ). set x 121 1) (set_at all 0 (0 ∷ []) n 120 all_long ∙ sym (append_assoc all (n ∷ []) (0 ∷ [])))
       ∙ set_at (all ++ (n ∷ [])) 0 [] 1 121 next
       ∙ append_assoc all (n ∷ []) (1 ∷ [])
       ∙ rw e refl
 
 -- A fault leaves the words as they were.
-pub kept : (n : ℕ) (t : Table) (w : List ℕ) → (n ≡ 0 → ⊥) → w ≡ wordsAfter n t w
+pub kept : (n : ℕ) (t : Table) (w : List ℕ) → (n ≡ 0 → ⊥) → w ≡ words_after_lem n t w
 kept zero t w k = absurd (k refl)
 kept (suc n) t w k = refl

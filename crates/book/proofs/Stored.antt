@@ -8,27 +8,27 @@ use lib.ListN.{length, drop, set}
 use lib.Seq.{length-sets, sets-eq}
 use Rattle.book.specs.Private.{stored}
 
-stored-append : (v w l : List ℕ) (at : ℕ) → stored (stored l at v) (at + length v) w ≡ stored l at (v ++ w)
+stored_append : (v w l : List ℕ) (at : ℕ) → stored (stored l at v) (at + length v) w ≡ stored l at (v ++ w)
 unfolding stored
-stored-append [] w l at = rw add-zero
-stored-append (a ∷ v) w l at =
+stored_append [] w l at = rw add-zero
+stored_append (a ∷ v) w l at =
     let e : at + suc (length v) ≡ suc at + length v = omega arith in
-    rw e (stored-append v w (set l at a) (suc at))
+    rw e (stored_append v w (set l at a) (suc at))
 
-pub stored-two : (u v l : List ℕ) (at m : ℕ) → at + length u ≡ m → stored (stored l at u) m v ≡ stored l at (u ++ v)
-stored-two u v l at m e = rw (← e) (stored-append u v l at)
+pub stored_two : (u v l : List ℕ) (at m : ℕ) → at + length u ≡ m → stored (stored l at u) m v ≡ stored l at (u ++ v)
+stored_two u v l at m e = rw (← e) (stored_append u v l at)
 
 pub stored-three : (u v w l : List ℕ) (at m n : ℕ) → at + length u ≡ m → m + length v ≡ n
     → stored (stored (stored l at u) m v) n w ≡ stored l at (u ++ (v ++ w))
-stored-three u v w l at m n e f = stored-two v w (stored l at u) m n f ∙ stored-two u (v ++ w) l at m e
+stored-three u v w l at m n e f = stored_two v w (stored l at u) m n f ∙ stored_two u (v ++ w) l at m e
 
 pub stored-length : (l : List ℕ) (at : ℕ) (v : List ℕ) → length (stored l at v) ≡ length l
 unfolding stored
 stored-length l at v = length-sets l at v
 
-pub stored-none : (l : List ℕ) (at : ℕ) → stored l at [] ≡ l
+pub stored_none : (l : List ℕ) (at : ℕ) → stored l at [] ≡ l
 unfolding stored
-stored-none l at = refl
+stored_none l at = refl
 
 pub stored-all : (v l : List ℕ) → length v ≤ length l → stored l 0 v ≡ v ++ drop (length v) l
 unfolding stored

@@ -9,17 +9,17 @@ abbrev pub byte_at : List ℕ → ℕ → ℕ
 byte_at b i = get_or b i 0
 
 -- the number in the 2 bytes from i on
-unfoldable pub twoAt : List ℕ → ℕ → ℕ
-twoAt b i = byte_at b i + 256 * byte_at b (i + 1)
+unfoldable pub two_at_lem : List ℕ → ℕ → ℕ
+two_at_lem b i = byte_at b i + 256 * byte_at b (i + 1)
 
 -- the number in the 4 bytes from i on
-unfoldable pub fourAt : List ℕ → ℕ → ℕ
-fourAt b i = twoAt b i + 65_536 * twoAt b (i + 2)
+unfoldable pub four_at_lem : List ℕ → ℕ → ℕ
+four_at_lem b i = two_at_lem b i + 65_536 * two_at_lem b (i + 2)
 
 -- the 2 bytes of a number
-unfoldable pub twoBytes : ℕ → List ℕ
-twoBytes n = n % 256 ∷ n / 256 % 256 ∷ []
+unfoldable pub two_bytes : ℕ → List ℕ
+two_bytes n = n % 256 ∷ n / 256 % 256 ∷ []
 
 -- the 4 bytes of a number
-unfoldable pub fourBytes : ℕ → List ℕ
-fourBytes n = twoBytes (n % 65_536) ++ twoBytes (n / 65_536)
+unfoldable pub four_bytes : ℕ → List ℕ
+four_bytes n = two_bytes (n % 65_536) ++ two_bytes (n / 65_536)

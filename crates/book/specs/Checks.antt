@@ -14,6 +14,6 @@ fault (at_most a b n ∷ l) = cond (leb a b) (fault l) n
 fault (equal a b n ∷ l) = cond (eqb a b) (fault l) n
 
 -- the first of two faults, 0 being none
-unfoldable pub firstFault : ℕ → ℕ → ℕ
-firstFault zero m = m
-firstFault (suc n) m = suc n
+unfoldable pub first_fault : ℕ → ℕ → ℕ
+first_fault zero m = m
+first_fault (suc n) m = suc n

@@ -4,34 +4,34 @@ use Rattle.table.specs.declared.Place.{Place}
 use Rattle.table.specs.Table.{Table}
 use Rattle.table.specs.Place.{table_of}
 use Rattle.book.specs.Checks.{at_most, fault}
-use Rattle.book.specs.Encode.{encode, bookSize}
+use Rattle.book.specs.Encode.{encode, book_size}
 use Rattle.book.specs.declared.Written.{Written}
 use Rattle.book.specs.declared.Written.TheVariants.{Length, Refused}
 
 -- the table of a place, if it is loaded, before others
-abbrev pub loadedThen : Place → List Table → List Table
-loadedThen p ts = cond p.loaded (table_of p ∷ ts) ts
+abbrev pub loaded_then : Place → List Table → List Table
+loaded_then p ts = cond p.loaded (table_of p ∷ ts) ts
 
 -- the tables of the loaded places, 1 before 2
 abbrev pub tables_of : Place → Place → List Table
-tables_of p q = loadedThen p (loadedThen q [])
+tables_of p q = loaded_then p (loaded_then q [])
 
 -- 22 if both places are empty, 13 if a buffer of n bytes is too short for the whole book
-unfoldable pub writeFault : List Table → ℕ → ℕ
-writeFault ts n = fault (at_most 1 (length ts) 22 ∷ at_most (bookSize ts) n 13 ∷ [])
+unfoldable pub write_fault : List Table → ℕ → ℕ
+write_fault ts n = fault (at_most 1 (length ts) 22 ∷ at_most (book_size ts) n 13 ∷ [])
 
-unfoldable pub lengthOr : ℕ → List Table → Written
-lengthOr zero ts = Length (bookSize ts)
-lengthOr (suc n) ts = Refused (suc n)
+unfoldable pub length_or : ℕ → List Table → Written
+length_or zero ts = Length (book_size ts)
+length_or (suc n) ts = Refused (suc n)
 
 -- The bytes beyond the book are kept, and all bytes where it is refused.
-unfoldable pub bufferOr : ℕ → List Table → List ℕ → List ℕ
-bufferOr zero ts buf = encode ts ++ drop (bookSize ts) buf
-bufferOr (suc n) ts buf = buf
+unfoldable pub buffer_or : ℕ → List Table → List ℕ → List ℕ
+buffer_or zero ts buf = encode ts ++ drop (book_size ts) buf
+buffer_or (suc n) ts buf = buf
 
 -- of tables and the length of a buffer
-abbrev pub writeAnswer : List Table → ℕ → Written
-writeAnswer ts n = lengthOr (writeFault ts n) ts
+abbrev pub write_answer : List Table → ℕ → Written
+write_answer ts n = length_or (write_fault ts n) ts
 
-abbrev pub bufferAfter : List Table → List ℕ → List ℕ
-bufferAfter ts buf = bufferOr (writeFault ts (length buf)) ts buf
+abbrev pub buffer_after : List Table → List ℕ → List ℕ
+buffer_after ts buf = buffer_or (write_fault ts (length buf)) ts buf

@@ -1,7 +1,7 @@
 // The layout of a book and its checks: each check answers 0, or the number of the first fault.
 ghost use Rattle.std.specs.Prelude.{◌+◌, ◌*◌, ◌≤◌, ◌<◌, ◌≡◌, length};
 ghost use Rattle.book.specs.Checks.{fault};
-ghost use Rattle.book.specs.Layout.{raters, start_of, headChecks, tableChecks, tablesFault};
+ghost use Rattle.book.specs.Layout.{raters, start_of, head_checks, table_checks, tables_fault_lem};
 
 use crate::bytes::{byte_at, two_at};
 use refusals::{
@@ -39,7 +39,7 @@ pub fn start_of(b: &[u8], j: usize) -> usize
 
 // The length of the book, and the number of raters.
 pub fn head_fault(b: &[u8]) -> u32
-    ensures { result ≡ fault (headChecks b.now) }
+    ensures { result ≡ fault (head_checks b.now) }
 {
     if b.len() < HEAD {
         return BOOK_LENGTH;
@@ -63,7 +63,7 @@ pub fn head_fault(b: &[u8]) -> u32
 // The table of rater j, where the one before ended at `at`.
 fn table_fault(b: &[u8], j: usize, at: usize) -> u32
     requires { (1 ≤ j) × (4 + 2 * j ≤ length b.now) × (at ≤ length b.now) }
-    ensures { result ≡ fault (tableChecks b.now j at) }
+    ensures { result ≡ fault (table_checks b.now j at) }
 {
     if start_of(b, j) != at {
         return TABLE_START;
@@ -93,8 +93,8 @@ fn table_fault(b: &[u8], j: usize, at: usize) -> u32
 
 // All tables, and that nothing follows them.
 pub fn tables_fault(b: &[u8]) -> u32
-    requires { fault (headChecks b.now) ≡ 0 }
-    ensures { result ≡ tablesFault b.now }
+    requires { fault (head_checks b.now) ≡ 0 }
+    ensures { result ≡ tables_fault_lem b.now }
 {
     let raters = raters_of(b);
     let mut at = HEAD + OFFSET * raters;

@@ -2,12 +2,12 @@
 ghost use Rattle.std.specs.Prelude.{◌+◌, ◌≤◌, ◌≡◌, length};
 ghost use Rattle.table.specs.Counts.{capped};
 ghost use Rattle.table.specs.Place.{fresh, place_of};
-ghost use Rattle.table.specs.Words.{placeSize, words_of};
+ghost use Rattle.table.specs.Words.{place_size, words_of};
 ghost use Rattle.book.specs.Checks.{fault};
-ghost use Rattle.book.specs.Layout.{gradesAt, end_of};
-ghost use Rattle.book.specs.Rows.{obligorsBy, gradeIn, tableFrom, tableOfRater, laterChecks, tableFault};
-ghost use Rattle.book.specs.Reading.{readFault};
-ghost use Rattle.book.specs.Private.{gradeOf, cappedGrade, sumChecks, wordsAfter};
+ghost use Rattle.book.specs.Layout.{grades_at, end_of};
+ghost use Rattle.book.specs.Rows.{obligors_by_lem, grade_in, table_from, table_of_rater, later_checks, table_fault_lem};
+ghost use Rattle.book.specs.Reading.{read_fault};
+ghost use Rattle.book.specs.Private.{grade_of, capped_grade, sum_checks, words_after_lem};
 
 use crate::Row;
 use crate::bytes::{byte_at, four_at};
@@ -17,7 +17,7 @@ use table::{ANNOUNCED, DEFAULTS, GRADE_COUNT, LOADED, OBLIGORS, Obligors, PPM, S
 
 // The first column as obligors, by its kind. Until then it is a bare number: a count out of a book becomes one of its kind here alone.
 fn obligors_by(kind: usize, column: u32, defaults: u32) -> Obligors
-    ensures { result.0 ≡ capped (obligorsBy kind column defaults) }
+    ensures { result.0 ≡ capped (obligors_by_lem kind column defaults) }
 {
     if kind == 0 {
         Obligors(column)
@@ -29,7 +29,7 @@ fn obligors_by(kind: usize, column: u32, defaults: u32) -> Obligors
 // The row in the 12 bytes from `at` on.
 fn row_at(b: &[u8], kind: usize, at: usize) -> Row
     requires { at + 12 ≤ length b.now }
-    ensures { gradeOf result ≡ cappedGrade (gradeIn b.now kind at) }
+    ensures { grade_of result ≡ capped_grade (grade_in b.now kind at) }
 {
     let column = four_at(b, at);
     let defaults = four_at(b, at + 4);
@@ -44,7 +44,7 @@ fn row_at(b: &[u8], kind: usize, at: usize) -> Row
 
 // 0, or the number of the first fault of a row behind one that announced the rate `before`.
 fn row_fault(r: Row, before: u32) -> u32
-    ensures { result ≡ fault (laterChecks before (gradeOf r)) }
+    ensures { result ≡ fault (later_checks before (grade_of r)) }
 {
     if r.obligors.0 < r.defaults {
         return MANY_DEFAULTS;
@@ -60,7 +60,7 @@ fn row_fault(r: Row, before: u32) -> u32
 
 // 0, or the number of the first fault of a table whose rows have none and sum to this many obligors, which may be more than an `Obligors` holds.
 fn total_fault(total: u64) -> u32
-    ensures { result ≡ fault (sumChecks total) }
+    ensures { result ≡ fault (sum_checks total) }
 {
     if total < 1 {
         return NO_OBLIGORS;
@@ -75,11 +75,11 @@ fn total_fault(total: u64) -> u32
 // Reads the table that starts at `start` into an empty place, checked row by row and then in total; 0, or the number of the first fault. After a
 // fault the place means nothing.
 pub fn read_table(b: &[u8], start: usize, place: &mut [u32]) -> u32
-    requires inside { (end_of b.now start ≤ length b.now) × (gradesAt b.now start ≤ 40) }
+    requires inside { (end_of b.now start ≤ length b.now) × (grades_at b.now start ≤ 40) }
     requires empty { place.old ≡ words_of fresh }
-    ensures value { result ≡ tableFault (tableFrom b.now start) }
-    ensures place_after { result ≡ 0 → place.new ≡ words_of (place_of (tableFrom b.now start)) }
-    ensures place_len { length place.new ≡ placeSize }
+    ensures value { result ≡ table_fault_lem (table_from b.now start) }
+    ensures place_after { result ≡ 0 → place.new ≡ words_of (place_of (table_from b.now start)) }
+    ensures place_len { length place.new ≡ place_size }
 {
     let grades = byte_at(b, start);
     let kind = byte_at(b, start + 1);
@@ -113,10 +113,10 @@ pub fn read_table(b: &[u8], start: usize, place: &mut [u32]) -> u32
 
 // Fills an empty place with the table that starts at `start`; 0, or the number of the first fault, which leaves the place as it was.
 fn fill(b: &[u8], start: usize, place: &mut [u32]) -> u32
-    requires inside { (end_of b.now start ≤ length b.now) × (gradesAt b.now start ≤ 40) }
+    requires inside { (end_of b.now start ≤ length b.now) × (grades_at b.now start ≤ 40) }
     requires empty { place.old ≡ words_of fresh }
-    ensures value { result ≡ tableFault (tableFrom b.now start) }
-    ensures place_after { place.new ≡ wordsAfter result (tableFrom b.now start) place.old }
+    ensures value { result ≡ table_fault_lem (table_from b.now start) }
+    ensures place_after { place.new ≡ words_after_lem result (table_from b.now start) place.old }
 {
     let fault = read_table(b, start, place);
     if fault == 0 {
@@ -130,8 +130,8 @@ fn fill(b: &[u8], start: usize, place: &mut [u32]) -> u32
 // Fills an empty place with the table of a rater; 0, or the number of the first fault, which leaves the place as it was.
 pub fn read(book: &[u8], rater: u32, place: &mut [u32]) -> u32
     requires { place.old ≡ words_of fresh }
-    ensures value { result ≡ readFault book.now rater }
-    ensures place_after { place.new ≡ wordsAfter result (tableOfRater book.now rater) place.old }
+    ensures value { result ≡ read_fault book.now rater }
+    ensures place_after { place.new ≡ words_after_lem result (table_of_rater book.now rater) place.old }
 {
     let head = head_fault(book);
     if head != 0 {

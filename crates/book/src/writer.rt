@@ -1,9 +1,9 @@
 // Writing the tables of lent places as a book of kind 0.
 ghost use Rattle.std.specs.Prelude.{◌+◌, ◌*◌, ◌≤◌, ◌≡◌, [], ◌∷◌, length};
-ghost use Rattle.table.specs.Words.{place_in, tableIn};
-ghost use Rattle.book.specs.Private.{stored, gradeOf, encodeHead, Writable, lentTables};
-ghost use Rattle.book.specs.Encode.{encodeGrade, encodeGrades, encodeTable, size_of};
-ghost use Rattle.book.specs.Writing.{writeAnswer, bufferAfter};
+ghost use Rattle.table.specs.Words.{place_in, table_in};
+ghost use Rattle.book.specs.Private.{stored, grade_of, encode_head, Writable, lent_tables};
+ghost use Rattle.book.specs.Encode.{encode_grade, encode_grades, encode_table, size_of};
+ghost use Rattle.book.specs.Writing.{write_answer, buffer_after};
 
 use crate::bytes::{put_four, put_two};
 use crate::layout::{HEAD, OFFSET, ROW, TABLE_HEAD};
@@ -19,7 +19,7 @@ const TWO_OFFSETS_END: usize = HEAD + 2 * OFFSET;
 // Stores the 12 bytes of a row from `at` on.
 fn put_row(out: &mut [u8], at: usize, r: Row)
     requires { at + 12 ≤ length out.old }
-    ensures { out.new ≡ stored out.old at (encodeGrade (gradeOf r)) }
+    ensures { out.new ≡ stored out.old at (encode_grade (grade_of r)) }
 {
     put_four(out, at, r.obligors.0);
     put_four(out, at + 4, r.defaults);
@@ -30,7 +30,7 @@ fn put_row(out: &mut [u8], at: usize, r: Row)
 fn put_rows(out: &mut [u8], start: usize, place: &[u32])
     requires writable { Writable place.now }
     requires room { start + 12 * (place_in place.now).grades ≤ length out.old }
-    ensures { out.new ≡ stored out.old start (encodeGrades (tableIn place.now)) }
+    ensures { out.new ≡ stored out.old start (encode_grades (table_in place.now)) }
 {
     let grades = grades_of(place);
     let mut at = start;
@@ -51,8 +51,8 @@ fn put_rows(out: &mut [u8], start: usize, place: &[u32])
 // Stores the table in a lent place from `at` on.
 fn put_table(out: &mut [u8], at: usize, place: &[u32])
     requires writable { Writable place.now }
-    requires room { at + size_of (tableIn place.now) ≤ length out.old }
-    ensures { out.new ≡ stored out.old at (encodeTable (tableIn place.now)) }
+    requires room { at + size_of (table_in place.now) ≤ length out.old }
+    ensures { out.new ≡ stored out.old at (encode_table (table_in place.now)) }
 {
     put_two(out, at, grades_of(place));
     put_two(out, at + 2, 0);
@@ -62,7 +62,7 @@ fn put_table(out: &mut [u8], at: usize, place: &[u32])
 // How many bytes the table in a lent place takes.
 fn size_of(place: &[u32]) -> usize
     requires { Writable place.now }
-    ensures { (result ≡ size_of (tableIn place.now)) × (result ≤ 484) }
+    ensures { (result ≡ size_of (table_in place.now)) × (result ≤ 484) }
 {
     TABLE_HEAD + ROW * grades_of(place)
 }
@@ -70,7 +70,7 @@ fn size_of(place: &[u32]) -> usize
 // Stores what stands before the offset of a second table: the number of raters, the length, and the offset of the first table.
 fn put_head(out: &mut [u8], raters: usize, size: usize)
     requires { (6 ≤ length out.old) × (raters ≤ 16) }
-    ensures { out.new ≡ stored out.old 0 (encodeHead raters size) }
+    ensures { out.new ≡ stored out.old 0 (encode_head raters size) }
 {
     put_two(out, 0, raters);
     put_two(out, 2, size);
@@ -80,8 +80,8 @@ fn put_head(out: &mut [u8], raters: usize, size: usize)
 // A book of the table in one place.
 fn write_one(place: &[u32], out: &mut [u8]) -> Written
     requires { Writable place.now }
-    ensures value { result ≡ writeAnswer (tableIn place.now ∷ []) (length out.old) }
-    ensures out_after { out.new ≡ bufferAfter (tableIn place.now ∷ []) out.old }
+    ensures value { result ≡ write_answer (table_in place.now ∷ []) (length out.old) }
+    ensures out_after { out.new ≡ buffer_after (table_in place.now ∷ []) out.old }
 {
     let size = ONE_OFFSET_END + size_of(place);
     if out.len() < size {
@@ -95,8 +95,8 @@ fn write_one(place: &[u32], out: &mut [u8]) -> Written
 // A book of the tables in two places.
 fn write_two(first: &[u32], second: &[u32], out: &mut [u8]) -> Written
     requires { Writable first.now × Writable second.now }
-    ensures value { result ≡ writeAnswer (tableIn first.now ∷ tableIn second.now ∷ []) (length out.old) }
-    ensures out_after { out.new ≡ bufferAfter (tableIn first.now ∷ tableIn second.now ∷ []) out.old }
+    ensures value { result ≡ write_answer (table_in first.now ∷ table_in second.now ∷ []) (length out.old) }
+    ensures out_after { out.new ≡ buffer_after (table_in first.now ∷ table_in second.now ∷ []) out.old }
 {
     let next = TWO_OFFSETS_END + size_of(first);
     let end = next + size_of(second);
@@ -113,8 +113,8 @@ fn write_two(first: &[u32], second: &[u32], out: &mut [u8]) -> Written
 // A book of the loaded ones of two places, the first before the second.
 pub fn write(first: &[u32], second: &[u32], out: &mut [u8]) -> Written
     requires { Writable first.now × Writable second.now }
-    ensures value { result ≡ writeAnswer (lentTables first.now second.now) (length out.old) }
-    ensures out_after { out.new ≡ bufferAfter (lentTables first.now second.now) out.old }
+    ensures value { result ≡ write_answer (lent_tables first.now second.now) (length out.old) }
+    ensures out_after { out.new ≡ buffer_after (lent_tables first.now second.now) out.old }
 {
     let second_loaded = is_loaded(second);
     if is_loaded(first) {

@@ -41,33 +41,33 @@ Limited n P (accepted x) = (n ≡ 0) × P x
 Limited n P (refused m) = (n ≡ m) × (m ≡ 0 → ⊥)
 
 -- g and cost
-abbrev pub cheapestSays : CheapestAnswer → Answer CheapestCutoff
-cheapestSays (cheapest.Cheapest c) = accepted c
-cheapestSays (cheapest.Refused n) = refused n
+abbrev pub cheapest_says : CheapestAnswer → Answer CheapestCutoff
+cheapest_says (cheapest.Cheapest c) = accepted c
+cheapest_says (cheapest.Refused n) = refused n
 
-abbrev pub compareSays : CompareAnswer → Answer Verdict
-compareSays (compare.Verdict v) = accepted v
-compareSays (compare.Refused n) = refused n
+abbrev pub compare_says : CompareAnswer → Answer Verdict
+compare_says (compare.Verdict v) = accepted v
+compare_says (compare.Refused n) = refused n
 
 -- D, S, the four measures and Pietra's cutoff
-abbrev pub measuresSays : MeasuresAnswer → Answer Measures
-measuresSays (measures.Measures m) = accepted m
-measuresSays (measures.Refused n) = refused n
+abbrev pub measures_says : MeasuresAnswer → Answer Measures
+measures_says (measures.Measures m) = accepted m
+measures_says (measures.Refused n) = refused n
 
-abbrev pub brierSays : BrierAnswer → Answer UnsignedFraction
-brierSays (brier.Brier x) = accepted x
-brierSays (brier.Refused n) = refused n
+abbrev pub brier_says : BrierAnswer → Answer UnsignedFraction
+brier_says (brier.Brier x) = accepted x
+brier_says (brier.Refused n) = refused n
 
-abbrev pub spreadSays : SpreadAnswer → Answer Spread
-spreadSays (spread.Spread x) = accepted x
-spreadSays (spread.Refused n) = refused n
+abbrev pub spread_says : SpreadAnswer → Answer Spread
+spread_says (spread.Spread x) = accepted x
+spread_says (spread.Refused n) = refused n
 
 -- a place's answer to a comparison: D, S and N of its table
-abbrev pub totalsSays : TotalsAnswer → Answer Totals
-totalsSays (totals.Totals t) = accepted t
-totalsSays (totals.Refused n) = refused n
+abbrev pub totals_says : TotalsAnswer → Answer Totals
+totals_says (totals.Totals t) = accepted t
+totals_says (totals.Refused n) = refused n
 
 -- and that of both places
-abbrev pub pairSays : PairAnswer → Answer (Totals × Totals)
-pairSays (pair.Totals a b) = accepted (a, b)
-pairSays (pair.Refused n) = refused n
+abbrev pub pair_says : PairAnswer → Answer (Totals × Totals)
+pair_says (pair.Totals a b) = accepted (a, b)
+pair_says (pair.Refused n) = refused n

@@ -1,18 +1,18 @@
 // The calls on one place, over its words: every check but that of the place's number, and then the work. The two comparisons, which ask two
 // places, are in `pair`.
 ghost use Rattle.std.specs.Prelude.{◌≡◌, length};
-ghost use Rattle.table.specs.Counts.{totalsOf};
+ghost use Rattle.table.specs.Counts.{totals_of_lem};
 ghost use Rattle.table.specs.Place.{table_of};
-ghost use Rattle.table.specs.Words.{place_in, tableIn, IsPlace};
-ghost use Rattle.pooling.specs.Numbers.{pooledInto};
-ghost use Rattle.pooled_place.specs.Words.{pooledPlaceSize, pooledPlaceWords, IsPooledPlace};
-ghost use Rattle.cutoff.specs.Cutoff.{cheapestOf};
-ghost use Rattle.measures.specs.Measures.{measuresOf};
-ghost use Rattle.measures.specs.Brier.{brierOf};
+ghost use Rattle.table.specs.Words.{place_in, table_in, IsPlace};
+ghost use Rattle.pooling.specs.Numbers.{pooled_into};
+ghost use Rattle.pooled_place.specs.Words.{pooled_place_size, pooled_place_words, IsPooledPlace};
+ghost use Rattle.cutoff.specs.Cutoff.{cheapest_of};
+ghost use Rattle.measures.specs.Measures.{measures_of};
+ghost use Rattle.measures.specs.Brier.{brier_of};
 ghost use Rattle.spread.specs.Spread.{IsSpread};
-ghost use Rattle.calls.specs.Answers.{answer, leaves, Limited, cheapestSays, measuresSays, brierSays, spreadSays, totalsSays};
-ghost use Rattle.calls.specs.Calls.{emptyFault, questionFault, cheapest, measures, brier, spread, fillFault, pool};
-ghost use Rattle.calls.specs.Calls.{changeFault, changedTo, load, clear, event};
+ghost use Rattle.calls.specs.Answers.{answer, leaves, Limited, cheapest_says, measures_says, brier_says, spread_says, totals_says};
+ghost use Rattle.calls.specs.Calls.{empty_fault, question_fault, cheapest, measures, brier, spread, fill_fault, pool};
+ghost use Rattle.calls.specs.Calls.{change_fault, changed_to, load, clear, event};
 ghost use Rattle.calls.specs.Private.{Fillable};
 
 mod pair;
@@ -74,8 +74,8 @@ pub enum PairAnswer {
 // Fills an empty place with the table of a rater of a book, and makes its pooled list; 0, or the refusal number.
 pub fn load(place: &mut [u32], book: &[u8], rater: u32) -> u32
     requires { Fillable place.old }
-    ensures value { result ≡ changeFault (place_in place.old) (load book.now rater) }
-    ensures place_after { let w = place.old in place.new ≡ leaves result w (pooledPlaceWords (changedTo (tableIn w) (load book.now rater))) }
+    ensures value { result ≡ change_fault (place_in place.old) (load book.now rater) }
+    ensures place_after { let w = place.old in place.new ≡ leaves result w (pooled_place_words (changed_to (table_in w) (load book.now rater))) }
 {
     if place_loaded(place) {
         return PLACE_LOADED;
@@ -90,9 +90,9 @@ pub fn load(place: &mut [u32], book: &[u8], rater: u32) -> u32
 
 // Makes a loaded place as it is on a fresh desk; 0, or the refusal number.
 pub fn clear(place: &mut [u32]) -> u32
-    requires { length place.old ≡ pooledPlaceSize }
-    ensures value { result ≡ changeFault (place_in place.old) clear }
-    ensures place_after { let w = place.old in place.new ≡ leaves result w (pooledPlaceWords (changedTo (tableIn w) clear)) }
+    requires { length place.old ≡ pooled_place_size }
+    ensures value { result ≡ change_fault (place_in place.old) clear }
+    ensures place_after { let w = place.old in place.new ≡ leaves result w (pooled_place_words (changed_to (table_in w) clear)) }
 {
     if !place_loaded(place) {
         return PLACE_EMPTY;
@@ -104,8 +104,8 @@ pub fn clear(place: &mut [u32]) -> u32
 // Books an event at a grade of the table, and makes its pooled list anew; 0, or the refusal number.
 pub fn book_event(place: &mut [u32], kind: Event, grade: u32) -> u32
     requires { IsPooledPlace place.old }
-    ensures value { result ≡ changeFault (place_in place.old) (event kind grade) }
-    ensures place_after { let w = place.old in place.new ≡ leaves result w (pooledPlaceWords (changedTo (tableIn w) (event kind grade))) }
+    ensures value { result ≡ change_fault (place_in place.old) (event kind grade) }
+    ensures place_after { let w = place.old in place.new ≡ leaves result w (pooled_place_words (changed_to (table_in w) (event kind grade))) }
 {
     if !place_loaded(place) {
         return PLACE_EMPTY;
@@ -116,8 +116,8 @@ pub fn book_event(place: &mut [u32], kind: Event, grade: u32) -> u32
 // The three numbers of each grade, into a lent buffer whose further numbers are kept; 0, or the refusal number. They are copied from the list.
 pub fn pool(place: &[u32], out: &mut [u32]) -> u32
     requires { IsPooledPlace place.now }
-    ensures value { result ≡ fillFault (place_in place.now) pool (length out.old) }
-    ensures out_after { out.new ≡ leaves result out.old (pooledInto (tableIn place.now) out.old) }
+    ensures value { result ≡ fill_fault (place_in place.now) pool (length out.old) }
+    ensures out_after { out.new ≡ leaves result out.old (pooled_into (table_in place.now) out.old) }
 {
     if !place_loaded(place) {
         return PLACE_EMPTY;
@@ -134,7 +134,7 @@ pub fn pool(place: &[u32], out: &mut [u32]) -> u32
 // The cheapest cutoff at price u of a missed default and v of a survivor turned away.
 pub fn cheapest(place: &[u32], u: u32, v: u32) -> CheapestAnswer
     requires { IsPlace place.now }
-    ensures { let p = place_in place.now in cheapestSays result ≡ answer (questionFault p (cheapest u v)) (cheapestOf (table_of p) u v) }
+    ensures { let p = place_in place.now in cheapest_says result ≡ answer (question_fault p (cheapest u v)) (cheapest_of (table_of p) u v) }
 {
     if !is_loaded(place) {
         return CheapestAnswer::Refused(PLACE_EMPTY);
@@ -151,7 +151,7 @@ pub fn cheapest(place: &[u32], u: u32, v: u32) -> CheapestAnswer
 // D, S and the four measures.
 pub fn measures(place: &[u32]) -> MeasuresAnswer
     requires { IsPlace place.now }
-    ensures { let p = place_in place.now in measuresSays result ≡ answer (questionFault p measures) (measuresOf (table_of p)) }
+    ensures { let p = place_in place.now in measures_says result ≡ answer (question_fault p measures) (measures_of (table_of p)) }
 {
     if !is_loaded(place) {
         return MeasuresAnswer::Refused(PLACE_EMPTY);
@@ -169,7 +169,7 @@ pub fn measures(place: &[u32]) -> MeasuresAnswer
 // The Brier score of the announced rates.
 pub fn brier(place: &[u32]) -> BrierAnswer
     requires { IsPlace place.now }
-    ensures { let p = place_in place.now in brierSays result ≡ answer (questionFault p brier) (brierOf (table_of p)) }
+    ensures { let p = place_in place.now in brier_says result ≡ answer (question_fault p brier) (brier_of (table_of p)) }
 {
     if !is_loaded(place) {
         return BrierAnswer::Refused(PLACE_EMPTY);
@@ -181,7 +181,7 @@ pub fn brier(place: &[u32]) -> BrierAnswer
 // floats alone are freer, bound as above".
 pub fn spread(place: &[u32]) -> SpreadAnswer
     requires { IsPooledPlace place.now }
-    ensures { let p = place_in place.now in Limited (questionFault p spread) (IsSpread (table_of p)) (spreadSays result) }
+    ensures { let p = place_in place.now in Limited (question_fault p spread) (IsSpread (table_of p)) (spread_says result) }
 {
     if !place_loaded(place) {
         return SpreadAnswer::Refused(PLACE_EMPTY);
@@ -192,7 +192,7 @@ pub fn spread(place: &[u32]) -> SpreadAnswer
 // The totals of the table, for the comparisons.
 fn totals(place: &[u32]) -> TotalsAnswer
     requires { IsPooledPlace place.now }
-    ensures { let p = place_in place.now in totalsSays result ≡ answer (emptyFault p) (totalsOf (table_of p)) }
+    ensures { let p = place_in place.now in totals_says result ≡ answer (empty_fault p) (totals_of_lem (table_of p)) }
 {
     if !place_loaded(place) {
         return TotalsAnswer::Refused(PLACE_EMPTY);

@@ -2,8 +2,8 @@
 ghost use Rattle.std.specs.Prelude.{◌≡◌};
 ghost use Rattle.table.specs.Words.{place_in};
 ghost use Rattle.pooled_place.specs.Words.{IsPooledPlace};
-ghost use Rattle.calls.specs.Answers.{answer, compareSays, totalsSays, pairSays};
-ghost use Rattle.calls.specs.Private.{mixedFault, pairTotals, SameRefusal};
+ghost use Rattle.calls.specs.Answers.{answer, compare_says, totals_says, pair_says};
+ghost use Rattle.calls.specs.Private.{mixed_fault, pair_totals, SameRefusal};
 ghost use Rattle.calls.specs.Calls.{Compared};
 ghost use Rattle.calls.specs.Shares.{ComparedByShares};
 
@@ -13,7 +13,7 @@ use shares::OBLIGORS_ON_SHARES;
 
 // The refusal that a place answered.
 fn handed_back(a: TotalsAnswer) -> PairAnswer
-    ensures { SameRefusal (totalsSays a) (pairSays result) }
+    ensures { SameRefusal (totals_says a) (pair_says result) }
 {
     match a {
         TotalsAnswer::Refused(n) => PairAnswer::Refused(n),
@@ -24,7 +24,7 @@ fn handed_back(a: TotalsAnswer) -> PairAnswer
 // What both comparisons begin with: the totals of the tables in both places, each with a default and a survivor.
 fn both_totals(first: &[u32], second: &[u32]) -> PairAnswer
     requires { IsPooledPlace first.now × IsPooledPlace second.now }
-    ensures { let p = place_in first.now in let q = place_in second.now in pairSays result ≡ answer (mixedFault p q) (pairTotals p q) }
+    ensures { let p = place_in first.now in let q = place_in second.now in pair_says result ≡ answer (mixed_fault p q) (pair_totals p q) }
 {
     let ours = totals(first);
     let TotalsAnswer::Totals(a) = ours else {
@@ -45,7 +45,7 @@ fn both_totals(first: &[u32], second: &[u32]) -> PairAnswer
 
 // The refusal in the answer of both places.
 fn refused(pair: PairAnswer) -> CompareAnswer
-    ensures { SameRefusal (pairSays pair) (compareSays result) }
+    ensures { SameRefusal (pair_says pair) (compare_says result) }
 {
     match pair {
         PairAnswer::Refused(n) => CompareAnswer::Refused(n),
@@ -57,7 +57,7 @@ fn refused(pair: PairAnswer) -> CompareAnswer
 // is carried is free; its prices are at most 1,000,000 and its costs differ as said".
 pub fn compare(first: &[u32], second: &[u32]) -> CompareAnswer
     requires { IsPooledPlace first.now × IsPooledPlace second.now }
-    ensures { Compared (place_in first.now) (place_in second.now) (compareSays result) }
+    ensures { Compared (place_in first.now) (place_in second.now) (compare_says result) }
 {
     let pair = both_totals(first, second);
     let PairAnswer::Totals(a, b) = pair else {
@@ -73,7 +73,7 @@ pub fn compare(first: &[u32], second: &[u32]) -> CompareAnswer
 // pairs carried have prices up to 2,500,000,000".
 pub fn compare_shares(first: &[u32], second: &[u32]) -> CompareAnswer
     requires { IsPooledPlace first.now × IsPooledPlace second.now }
-    ensures { ComparedByShares (place_in first.now) (place_in second.now) (compareSays result) }
+    ensures { ComparedByShares (place_in first.now) (place_in second.now) (compare_says result) }
 {
     let pair = both_totals(first, second);
     let PairAnswer::Totals(a, b) = pair else {

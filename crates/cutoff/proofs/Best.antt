@@ -16,8 +16,8 @@ pub record StrictOrder {A : Type 0} (better : A → A → Bool) : Type 0 where
 -- g is the number from 0 to k with the best value, the smallest of equals.
 pub record IsBest {A : Type 0} (better : A → A → Bool) (f : ℕ → A) (k g : ℕ) : Type 0 where
   pub within : g ≤ k
-  pub none-better : (h : ℕ) → h ≤ k → T (not (better (f h) (f g)))
-  pub smaller-worse : (h : ℕ) → h < g → T (better (f g) (f h))
+  pub none_better : (h : ℕ) → h ≤ k → T (not (better (f h) (f g)))
+  pub smaller_worse : (h : ℕ) → h < g → T (better (f g) (f h))
 
 -- What holds up to k, and of the next, holds up to the next.
 up_to : {P : ℕ → Type 0} (k : ℕ) → ((h : ℕ) → h ≤ k → P h) → P (suc k) → (h : ℕ) → h ≤ suc k → P h
@@ -27,15 +27,15 @@ module _ {A : Type 0} (better : A → A → Bool) (order : StrictOrder better) w
   not_itself : (x : A) → T (not (better x x))
   not_itself x = not_T (better x x) (λ b. T_not (better x x) (order.asymmetric x x b) b)
 
-  pub is-best : (f : ℕ → A) (k : ℕ) → IsBest better f k (best better f k)
+  pub is_best : (f : ℕ → A) (k : ℕ) → IsBest better f k (best better f k)
   unfolding best
-  is-best f zero =
+  is_best f zero =
       record {
         within = omega arith;
-        none-better = λ h l. let e : h ≡ 0 = omega arith in rw e (not_itself (f 0));
-        smaller-worse = λ h l. absurd (omega arith);
+        none_better = λ h l. let e : h ≡ 0 = omega arith in rw e (not_itself (f 0));
+        smaller_worse = λ h l. absurd (omega arith);
       }
-  is-best f (suc k) = next (is-best f k)
+  is_best f (suc k) = next (is_best f k)
     where
       g : ℕ
       g = best better f k
@@ -44,27 +44,27 @@ module _ {A : Type 0} (better : A → A → Bool) (order : StrictOrder better) w
       next b =
           by-test (IsBest better f (suc k)) (better (f (suc k)) (f g))
           (λ x.
-          let beaten : (h : ℕ) → h ≤ k → T (better (f (suc k)) (f h)) = λ h l. order.beats _ (f g) (f h) x (b.none-better h l) in
+          let beaten : (h : ℕ) → h ≤ k → T (better (f (suc k)) (f h)) = λ h l. order.beats _ (f g) (f h) x (b.none_better h l) in
           record {
             within = omega arith;
-            none-better = up_to k (λ h l. order.asymmetric _ _ (beaten h l)) (not_itself _);
-            smaller-worse = λ h l. beaten h (omega arith);
+            none_better = up_to k (λ h l. order.asymmetric _ _ (beaten h l)) (not_itself _);
+            smaller_worse = λ h l. beaten h (omega arith);
           })
-          (λ x. record { within = omega (arith, b.within); none-better = up_to k b.none-better x; smaller-worse = b.smaller-worse })
+          (λ x. record { within = omega (arith, b.within); none_better = up_to k b.none_better x; smaller_worse = b.smaller_worse })
 
   -- Values that compare alike have their best at the same place.
-  pub best-alike : (f f' : ℕ → A) (k : ℕ) → ((i j : ℕ) → i ≤ k → j ≤ k → better (f i) (f j) ≡ better (f' i) (f' j))
+  pub best_alike : (f f' : ℕ → A) (k : ℕ) → ((i j : ℕ) → i ≤ k → j ≤ k → better (f i) (f j) ≡ better (f' i) (f' j))
       → best better f k ≡ best better f' k
   unfolding best
-  best-alike f f' zero e = refl
-  best-alike f f' (suc k) e =
-      let rest = best-alike f f' k (λ i j p q. e i j (omega arith) (omega arith)) in
-      rw (rest, e (suc k) (best better f' k) (omega arith) (omega (arith, (is-best f' k).within)))
+  best_alike f f' zero e = refl
+  best_alike f f' (suc k) e =
+      let rest = best_alike f f' k (λ i j p q. e i j (omega arith) (omega arith)) in
+      rw (rest, e (suc k) (best better f' k) (omega arith) (omega (arith, (is_best f' k).within)))
 
 -- Of numbers, the least.
 
-pub ltb-order : StrictOrder ltb
-ltb-order =
+pub ltb_order : StrictOrder ltb
+ltb_order =
     record {
       asymmetric = λ x y h. not_T (ltb y x) (λ k. omega (arith, ltb→lt x y h, ltb→lt y x k));
       beats = λ x y z h k. lt→ltb x z (omega (arith, ltb→lt x y h, nltb→le z y k));

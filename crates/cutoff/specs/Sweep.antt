@@ -2,11 +2,11 @@
 -- The search for prices at which one scale costs more than another, each in its weights, and the verdict that two searches make.
 use Rattle.std.specs.Prelude.{ℕ, suc, ◌-◌, ◌*◌, ◌≤◌, ◌<◌, ◌≡◌, cond, List, [], ◌∷◌, map, leb, ℤ, pos, nat_abs, ◌+ℤ◌, ◌-ℤ◌, length, drop}
 use Rattle.std.proofs.Math.IntN.{sub_ℕ}
-use Rattle.table.specs.Table.{Table, Grade, Every, Occupied, Counted, survivors, defaultsIn, survivorsIn, obligorsIn}
+use Rattle.table.specs.Table.{Table, Grade, Every, Occupied, Counted, survivors, defaults_in, survivors_in, obligors_in}
 use Rattle.table.specs.Counts.{largest}
 use Rattle.pooling.specs.declared.Block.{Block}
-use Rattle.pooling.specs.Pool.{Rising, asGrade}
-use Rattle.pooling.specs.Private.{blockWords, blocksIn}
+use Rattle.pooling.specs.Pool.{Rising, as_grade}
+use Rattle.pooling.specs.Private.{block_words, blocks_in_lem}
 use Rattle.cutoff.specs.Cutoff.{IsCheapest, NoDearer}
 use Rattle.cutoff.specs.Weighted.{weighted}
 use Rattle.cutoff.specs.declared.Weights.{Weights}
@@ -23,39 +23,39 @@ use Rattle.cutoff.specs.declared.Verdict.TheVariants.{Equal, First, Second, Cros
 -- The scales.
 
 -- the scale whose grades are the blocks in these words
-abbrev pub scaleIn : List ℕ → Table
-scaleIn w = map asGrade (blocksIn w)
+abbrev pub scale_in : List ℕ → Table
+scale_in w = map as_grade (blocks_in_lem w)
 
 -- What is known of the words of the blocks of a sound table.
 pub record Sweepable (w : List ℕ) : Type 0 where
-  pub exact : w ≡ blockWords (blocksIn w)
-  pub rising : Rising (blocksIn w)
-  pub occupied : Every Occupied (scaleIn w)
-  pub counted : Every Counted (scaleIn w)
-  pub total : obligorsIn (scaleIn w) ≤ 1_000_000
+  pub exact : w ≡ block_words (blocks_in_lem w)
+  pub rising : Rising (blocks_in_lem w)
+  pub occupied : Every Occupied (scale_in w)
+  pub counted : Every Counted (scale_in w)
+  pub total : obligors_in (scale_in w) ≤ 1_000_000
 
-abbrev pub inWeights : Weights → Table → Table
-inWeights w t = weighted w.defaults w.survivors.0 t
+abbrev pub in_weights : Weights → Table → Table
+in_weights w t = weighted w.defaults w.survivors.0 t
 
 -- weights that a table of at most 100,000 obligors can have as its totals
 abbrev pub Light : Weights → Type 0
 Light w = (w.defaults ≤ 100_000) × (w.survivors.0 ≤ 100_000)
 
 -- the most pairs of a default and a survivor in weights: 2,500,000,000 squared, which fits in 64 bits with a sign
-abbrev pub mostPairs : ℕ
-mostPairs = 6_250_000_000_000_000_000
+abbrev pub most_pairs : ℕ
+most_pairs = 6_250_000_000_000_000_000
 
 -- Two scales with equally many defaults, equally many survivors and no more pairs than that.
 pub record Matched (t₁ t₂ : Table) : Type 0 where
-  pub same-defaults : defaultsIn t₁ ≡ defaultsIn t₂
-  pub same-survivors : survivorsIn t₁ ≡ survivorsIn t₂
-  pub few-pairs : defaultsIn t₁ * survivorsIn t₁ ≤ mostPairs
+  pub same_defaults : defaults_in t₁ ≡ defaults_in t₂
+  pub same_survivors : survivors_in t₁ ≡ survivors_in t₂
+  pub few_pairs : defaults_in t₁ * survivors_in t₁ ≤ most_pairs
 
 -- The search.
 
 -- what a block counts in weights
-abbrev pub countsIn : Weights → Grade → Counts
-countsIn w b = record { defaults = w.defaults * b.defaults; survivors = w.survivors.0 * survivors b }
+abbrev pub counts_in : Weights → Grade → Counts
+counts_in w b = record { defaults = w.defaults * b.defaults; survivors = w.survivors.0 * survivors b }
 
 -- as many as a block of 1,000,000 obligors can count
 abbrev pub Few : Counts → Type 0
@@ -63,7 +63,7 @@ Few c = (c.defaults ≤ 100_000_000_000) × (c.survivors ≤ 100_000_000_000)
 
 -- well within 64 bits with a sign
 abbrev pub FitsSigned : ℤ → Type 0
-FitsSigned z = nat_abs z ≤ mostPairs
+FitsSigned z = nat_abs z ≤ most_pairs
 
 -- the lead once the second turns one more block away,
 abbrev pub ahead : Lead → Counts → Lead
@@ -74,17 +74,17 @@ abbrev pub behind : Lead → Counts → Lead
 behind l b = record { from = l.from; defaults = l.defaults -ℤ pos b.defaults; survivors = l.survivors -ℤ pos b.survivors }
 
 -- the defaults that the cutoff which accepts the k best blocks of t catches, and the survivors that it turns away
-abbrev pub caughtAfter : Weights → Table → ℕ → ℕ
-caughtAfter w t k = w.defaults * defaultsIn (drop k t)
+abbrev pub caught_after : Weights → Table → ℕ → ℕ
+caught_after w t k = w.defaults * defaults_in (drop k t)
 
-abbrev pub lostAfter : Weights → Table → ℕ → ℕ
-lostAfter w t k = w.survivors.0 * survivorsIn (drop k t)
+abbrev pub lost_after : Weights → Table → ℕ → ℕ
+lost_after w t k = w.survivors.0 * survivors_in (drop k t)
 
 -- The lead l of that cutoff over one that catches y defaults and turns x survivors away.
 pub record Leads (w : Weights) (t : Table) (k y x : ℕ) (l : Lead) : Type 0 where
   pub from : l.from ≡ 3 * k
-  pub defaults : l.defaults ≡ sub_ℕ (caughtAfter w t k) y
-  pub survivors : l.survivors ≡ sub_ℕ (lostAfter w t k) x
+  pub defaults : l.defaults ≡ sub_ℕ (caught_after w t k) y
+  pub survivors : l.survivors ≡ sub_ℕ (lost_after w t k) x
 
 -- It is the lead of some cutoff of t over one that catches and turns away few.
 pub record IsLead (w : Weights) (t : Table) (l : Lead) : Type 0 where
@@ -92,62 +92,62 @@ pub record IsLead (w : Weights) (t : Table) (l : Lead) : Type 0 where
   pub caught : ℕ
   pub lost : ℕ
   pub few : accepted ≤ length t
-  pub few-caught : caught ≤ 100_000_000_000
-  pub few-lost : lost ≤ 100_000_000_000
+  pub few_caught : caught ≤ 100_000_000_000
+  pub few_lost : lost ≤ 100_000_000_000
   pub leads : Leads w t accepted caught lost l
 
 -- how many blocks are accepted at u and v: those before the first whose survivors cost no more than its defaults
-unfoldable pub acceptedAt : ℕ → ℕ → Table → ℕ
-acceptedAt u v [] = 0
-acceptedAt u v (b ∷ t) = cond (leb (v * survivors b) (u * b.defaults)) 0 (suc (acceptedAt u v t))
+unfoldable pub accepted_at : ℕ → ℕ → Table → ℕ
+accepted_at u v [] = 0
+accepted_at u v (b ∷ t) = cond (leb (v * survivors b) (u * b.defaults)) 0 (suc (accepted_at u v t))
 
 -- how many in weights at the break-even prices of a block
-abbrev pub acceptedIn : Weights → Counts → Table → ℕ
-acceptedIn w at t = acceptedAt (at.survivors * w.defaults) (at.defaults * w.survivors.0) t
+abbrev pub accepted_in : Weights → Counts → Table → ℕ
+accepted_in w at t = accepted_at (at.survivors * w.defaults) (at.defaults * w.survivors.0) t
 
 -- What all survivors, and all defaults, of t cost at these is small.
 abbrev pub SmallIn : Weights → Table → Counts → Type 0
 SmallIn w t at =
-    (at.defaults * (w.survivors.0 * survivorsIn t) ≤ mostPairs)
-    × (at.survivors * (w.defaults * defaultsIn t) ≤ mostPairs)
+    (at.defaults * (w.survivors.0 * survivors_in t) ≤ most_pairs)
+    × (at.survivors * (w.defaults * defaults_in t) ≤ most_pairs)
 
 -- Whatever cutoff l is ahead of, r is the lead over it of the one that accepts so many.
 abbrev pub Turned : Weights → Counts → Table → Lead → Lead → Type 0
-Turned w at t l r = (k y x : ℕ) → Leads w t k y x l → Leads w t (acceptedIn w at t) y x r
+Turned w at t l r = (k y x : ℕ) → Leads w t k y x l → Leads w t (accepted_in w at t) y x r
 
 -- At the break-even prices of b, which has no more defaults and no more survivors than t₁, t₁ costs more than t₂, each in its weights.
 pub record DearerAtBlock (w₁ w₂ : Weights) (t₁ t₂ : Table) (b : Block) : Type 0 where
-  pub counted : Counted (asGrade b)
-  pub few-defaults : b.defaults ≤ defaultsIn t₁
-  pub few-survivors : survivors (asGrade b) ≤ survivorsIn t₁
+  pub counted : Counted (as_grade b)
+  pub few_defaults : b.defaults ≤ defaults_in t₁
+  pub few_survivors : survivors (as_grade b) ≤ survivors_in t₁
   pub more : (c₁ c₂ : ℕ)
-      → IsCheapest (inWeights w₁ t₁) (w₁.survivors.0 * survivors (asGrade b)) (w₁.defaults * b.defaults) c₁
-      → IsCheapest (inWeights w₂ t₂) (w₁.survivors.0 * survivors (asGrade b)) (w₁.defaults * b.defaults) c₂
+      → IsCheapest (in_weights w₁ t₁) (w₁.survivors.0 * survivors (as_grade b)) (w₁.defaults * b.defaults) c₁
+      → IsCheapest (in_weights w₂ t₂) (w₁.survivors.0 * survivors (as_grade b)) (w₁.defaults * b.defaults) c₂
       → c₂ < c₁
 
 -- such a block; or t₁ costs no more at the break-even prices of any of its own grades
 abbrev pub Finds : Weights → Weights → Table → Table → Found → Type 0
 Finds w₁ w₂ t₁ t₂ (One b) = DearerAtBlock w₁ w₂ t₁ t₂ b
-Finds w₁ w₂ t₁ t₂ Nothing = Every (λ b. NoDearer (survivors b) b.defaults (inWeights w₁ t₁) (inWeights w₂ t₂)) (inWeights w₁ t₁)
+Finds w₁ w₂ t₁ t₂ Nothing = Every (λ b. NoDearer (survivors b) b.defaults (in_weights w₁ t₁) (in_weights w₂ t₂)) (in_weights w₁ t₁)
 
 -- The verdict.
 
 -- the break-even prices of a block, in the other scale's weights
-abbrev pub priceIn : Weights → Block → Price
-priceIn other b = record { u = survivors (asGrade b) * other.defaults; v = b.defaults * other.survivors.0 }
+abbrev pub price_in : Weights → Block → Price
+price_in other b = record { u = survivors (as_grade b) * other.defaults; v = b.defaults * other.survivors.0 }
 
 -- They are numbers of 32 bits.
 abbrev pub SmallPrice : Weights → Found → Type 0
-SmallPrice other (One b) = Counted (asGrade b) × (((priceIn other b).u ≤ largest) × ((priceIn other b).v ≤ largest))
+SmallPrice other (One b) = Counted (as_grade b) × (((price_in other b).u ≤ largest) × ((price_in other b).v ≤ largest))
 SmallPrice other Nothing = Unit {0}
 
-abbrev pub dearerAt : Weights → Found → Dearer
-dearerAt other (One b) = At (priceIn other b)
-dearerAt other Nothing = Nowhere
+abbrev pub dearer_at : Weights → Found → Dearer
+dearer_at other (One b) = At (price_in other b)
+dearer_at other Nothing = Nowhere
 
 -- the verdict that two searches make
-abbrev pub verdictOf : Dearer → Dearer → Verdict
-verdictOf Nowhere Nowhere = Equal
-verdictOf Nowhere (At q) = First q
-verdictOf (At p) Nowhere = Second p
-verdictOf (At p) (At q) = Crossing p q
+abbrev pub verdict_of : Dearer → Dearer → Verdict
+verdict_of Nowhere Nowhere = Equal
+verdict_of Nowhere (At q) = First q
+verdict_of (At p) Nowhere = Second p
+verdict_of (At p) (At q) = Crossing p q

@@ -1,16 +1,16 @@
 // Cutoffs: what turning the worst grades away costs, where that is cheapest, and which of two scales is better by it.
 ghost use Rattle.std.specs.Prelude.{◌*◌, ◌≤◌, ◌≡◌, leb, pos, ◌+ℤ◌, ◌-ℤ◌, ◌*ℤ◌, length};
 ghost use Rattle.std.specs.Int.Signed.{lt_z};
-ghost use Rattle.table.specs.Table.{Counted, defaultsIn, survivorsIn};
-ghost use Rattle.table.specs.Words.{tableIn, HoldsTable};
+ghost use Rattle.table.specs.Table.{Counted, defaults_in, survivors_in};
+ghost use Rattle.table.specs.Words.{table_in, HoldsTable};
 ghost use Rattle.table.specs.Counts.{largest};
-ghost use Rattle.pooling.specs.Pool.{asGrade};
+ghost use Rattle.pooling.specs.Pool.{as_grade};
 ghost use Rattle.pooled_place.specs.Words.{HoldsPooledTable};
-ghost use Rattle.cutoff.specs.Cutoff.{cheapestOf};
-ghost use Rattle.cutoff.specs.Verdict.{neverDearer, IsVerdict};
-ghost use Rattle.cutoff.specs.Sweep.{scaleIn, Sweepable, inWeights, Light, Matched, mostPairs, countsIn, Few, FitsSigned};
-ghost use Rattle.cutoff.specs.Sweep.{ahead, behind, IsLead, acceptedIn, SmallIn, Turned};
-ghost use Rattle.cutoff.specs.Sweep.{Finds, priceIn, SmallPrice, dearerAt, verdictOf};
+ghost use Rattle.cutoff.specs.Cutoff.{cheapest_of};
+ghost use Rattle.cutoff.specs.Verdict.{never_dearer_lem, IsVerdict};
+ghost use Rattle.cutoff.specs.Sweep.{scale_in, Sweepable, in_weights, Light, Matched, most_pairs, counts_in, Few, FitsSigned};
+ghost use Rattle.cutoff.specs.Sweep.{ahead, behind, IsLead, accepted_in, SmallIn, Turned};
+ghost use Rattle.cutoff.specs.Sweep.{Finds, price_in, SmallPrice, dearer_at, verdict_of};
 ghost use Rattle.cutoff.specs.Claims.{Claims};
 
 use pooled_place::listed_blocks;
@@ -33,7 +33,7 @@ pub struct CheapestCutoff {
 pub fn cheapest(place: &[u32], u: u32, v: u32) -> CheapestCutoff
     requires holds_table { HoldsTable place.now }
     requires prices { (u ≤ 1_000_000) × (v ≤ 1_000_000) }
-    ensures { result ≡ cheapestOf (tableIn place.now) u v }
+    ensures { result ≡ cheapest_of (table_in place.now) u v }
 {
     let grades = grades_of(place);
     let mut i = grades;
@@ -66,9 +66,9 @@ pub struct Price {
 impl Price {
     // The prices at which missing a block's defaults costs as much as turning its survivors away, in the other scale's weights.
     fn break_even(b: Block, other: Weights) -> Price
-        requires counted { Counted (asGrade b) }
-        requires small { ((priceIn other b).u ≤ largest) × ((priceIn other b).v ≤ largest) }
-        ensures { result ≡ priceIn other b }
+        requires counted { Counted (as_grade b) }
+        requires small { ((price_in other b).u ≤ largest) × ((price_in other b).v ≤ largest) }
+        ensures { result ≡ price_in other b }
     {
         Price {
             u: b.obligors.survivors(b.defaults).0 * other.defaults,
@@ -102,8 +102,8 @@ impl Weights {
     // What a block counts in these weights.
     fn counts(self, b: Block) -> Counts
         requires light { Light self }
-        requires counted { Counted (asGrade b) × (b.obligors.0 ≤ 1_000_000) }
-        ensures { result ≡ countsIn self (asGrade b) }
+        requires counted { Counted (as_grade b) × (b.obligors.0 ≤ 1_000_000) }
+        ensures { result ≡ counts_in self (as_grade b) }
     {
         let lost = b.obligors.survivors(b.defaults);
         Counts {
@@ -117,7 +117,7 @@ impl Counts {
     // Whether at this block's break-even prices, its survivors of a missed default and its defaults of a survivor turned away, turning
     // another's survivors away costs no more than missing its defaults.
     fn turns_away(self, b: Counts) -> bool
-        requires { (self.defaults * b.survivors ≤ mostPairs) × (self.survivors * b.defaults ≤ mostPairs) }
+        requires { (self.defaults * b.survivors ≤ most_pairs) × (self.survivors * b.defaults ≤ most_pairs) }
         ensures { result ≡ leb (self.defaults * b.survivors) (self.survivors * b.defaults) }
     {
         self.defaults * b.survivors <= self.survivors * b.defaults
@@ -174,10 +174,10 @@ impl Lead {
 
     // The second's cheapest cutoff at a block's break-even prices, which turns away all that this one does.
     fn turning_away(self, blocks: &[u32], weights: Weights, at: Counts) -> Lead
-        requires scale { Sweepable blocks.now × (Light weights × IsLead weights (scaleIn blocks.now) self) }
-        requires fewer { 3 * acceptedIn weights at (scaleIn blocks.now) ≤ self.from }
-        requires small { SmallIn weights (scaleIn blocks.now) at }
-        ensures { Turned weights at (scaleIn blocks.now) self result }
+        requires scale { Sweepable blocks.now × (Light weights × IsLead weights (scale_in blocks.now) self) }
+        requires fewer { 3 * accepted_in weights at (scale_in blocks.now) ≤ self.from }
+        requires small { SmallIn weights (scale_in blocks.now) at }
+        ensures { Turned weights at (scale_in blocks.now) self result }
     {
         let mut lead = self;
         while 0 < lead.from {
@@ -214,8 +214,8 @@ pub enum Found {
 pub fn where_dearer(first: &[u32], weights1: Weights, second: &[u32], weights2: Weights) -> Found
     requires scales { Sweepable first.now × Sweepable second.now }
     requires light { Light weights1 × Light weights2 }
-    requires matched { Matched (inWeights weights1 (scaleIn first.now)) (inWeights weights2 (scaleIn second.now)) }
-    ensures { Finds weights1 weights2 (scaleIn first.now) (scaleIn second.now) result }
+    requires matched { Matched (in_weights weights1 (scale_in first.now)) (in_weights weights2 (scale_in second.now)) }
+    ensures { Finds weights1 weights2 (scale_in first.now) (scale_in second.now) result }
 {
     let mut i = first.len();
     let mut lead = Lead::none(second);
@@ -243,7 +243,7 @@ impl Found {
     // At the break-even prices of the block that was found.
     pub fn at_break_even(self, other: Weights) -> Dearer
         requires { SmallPrice other self }
-        ensures { result ≡ dearerAt other self }
+        ensures { result ≡ dearer_at other self }
     {
         match self {
             Found::One(b) => Dearer::At(Price::break_even(b, other)),
@@ -267,7 +267,7 @@ pub enum Verdict {
 impl Verdict {
     // Where the first costs more, and where the second does, make the verdict.
     pub fn of(first: Dearer, second: Dearer) -> Verdict
-        ensures { result ≡ verdictOf first second }
+        ensures { result ≡ verdict_of first second }
     {
         match first {
             Dearer::Nowhere => match second {
@@ -285,9 +285,9 @@ impl Verdict {
 // The verdict on the tables in two lent places, by their pooled lists, of equally many defaults and equally many survivors.
 pub fn judge(first: &[u32], second: &[u32]) -> Verdict
     requires tables { HoldsPooledTable first.now × HoldsPooledTable second.now }
-    requires defaults { defaultsIn (tableIn first.now) ≡ defaultsIn (tableIn second.now) }
-    requires survivors { survivorsIn (tableIn first.now) ≡ survivorsIn (tableIn second.now) }
-    ensures { IsVerdict (tableIn first.now) (tableIn second.now) result }
+    requires defaults { defaults_in (table_in first.now) ≡ defaults_in (table_in second.now) }
+    requires survivors { survivors_in (table_in first.now) ≡ survivors_in (table_in second.now) }
+    ensures { IsVerdict (table_in first.now) (table_in second.now) result }
 {
     let mut ours = [0u32; BLOCKS];
     let ours_from = listed_blocks(first, &mut ours);
@@ -305,9 +305,9 @@ pub fn judge(first: &[u32], second: &[u32]) -> Verdict
 // Whether a scale costs no more than another at any prices: the blocks of two tables of equally many defaults and equally many survivors.
 pub fn never_dearer(first: &[u32], second: &[u32]) -> bool
     requires scales { Sweepable first.now × Sweepable second.now }
-    requires defaults { defaultsIn (scaleIn first.now) ≡ defaultsIn (scaleIn second.now) }
-    requires survivors { survivorsIn (scaleIn first.now) ≡ survivorsIn (scaleIn second.now) }
-    ensures { result ≡ neverDearer (scaleIn first.now) (scaleIn second.now) }
+    requires defaults { defaults_in (scale_in first.now) ≡ defaults_in (scale_in second.now) }
+    requires survivors { survivors_in (scale_in first.now) ≡ survivors_in (scale_in second.now) }
+    ensures { result ≡ never_dearer_lem (scale_in first.now) (scale_in second.now) }
 {
     let found = where_dearer(first, ONCE, second, ONCE);
     match found {

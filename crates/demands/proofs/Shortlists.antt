@@ -5,49 +5,49 @@ use mathlib.Core.List.{List}
 use native.Mathlib.Omega.{arith}
 use lib.ListN.{length, take, drop}
 use lib.Seq.{take_at}
-use Rattle.book.specs.Rows.{tableOfRater}
-use Rattle.book.specs.Reading.{allTables}
+use Rattle.book.specs.Rows.{table_of_rater}
+use Rattle.book.specs.Reading.{all_tables}
 use Rattle.cutoff.specs.declared.Verdict.{Verdict}
 use Rattle.shortlist.specs.Shortlist.{listed}
-use Rattle.shortlist.specs.Checks.{bufferOr}
+use Rattle.shortlist.specs.Checks.{buffer_or}
 use Rattle.shortlist.specs.Claims.{Rater}
-use Rattle.shortlist.proofs.Books.{not-refused, comparable, book-unbeaten, in_order, book-equals, book-beaten, book-some}
+use Rattle.shortlist.proofs.Books.{not_refused, comparable, book_unbeaten, in_order, book_equals, book_beaten, book_some}
 use Rattle.calls.specs.Answers.{Answer, accepted}
 use Rattle.desk.specs.declared.Desk.{Desk}
-use Rattle.desk.specs.Calls.{Call, shortlist, number_of, lentAfter, lentSize, Returns, Compares}
-use Rattle.desk_c.proofs.Answered.{accepted-is}
-use Rattle.demands.specs.History.{deskAfter, table, held}
+use Rattle.desk.specs.Calls.{Call, shortlist, number_of, lent_after, lent_size, Returns, Compares}
+use Rattle.desk_c.proofs.Answered.{accepted_is}
+use Rattle.demands.specs.History.{desk_after_lem, table, held}
 use Rattle.demands.specs.Demands.{IsShortlist, SettledBy}
-use Rattle.demands.proofs.Verdicts.{compare-right}
+use Rattle.demands.proofs.Verdicts.{compare_right}
 
 -- the numbers in the buffer are those of the listed raters
-numbers-are : (d : Desk) (b out : List ℕ) → number_of d (shortlist b out) ≡ 0
-    → take (lentSize d (shortlist b out)) (lentAfter d (shortlist b out)) ≡ listed (allTables b)
-unfolding bufferOr
-numbers-are d b out e = rw e (take_at (listed (allTables b)) (drop (length (listed (allTables b))) out) (length (listed (allTables b))) refl)
+numbers_are : (d : Desk) (b out : List ℕ) → number_of d (shortlist b out) ≡ 0
+    → take (lent_size d (shortlist b out)) (lent_after d (shortlist b out)) ≡ listed (all_tables b)
+unfolding buffer_or
+numbers_are d b out e = rw e (take_at (listed (all_tables b)) (drop (length (listed (all_tables b))) out) (length (listed (all_tables b))) refl)
 
-pub shortlist-right : (d : Desk) (b out : List ℕ) (n : ℕ) → Returns d (shortlist b out) (accepted n)
-    → (n ≤ length out) × IsShortlist b (take n (lentAfter d (shortlist b out)))
-shortlist-right d b out n r =
-    let said = accepted-is (lentSize d (shortlist b out)) (number_of d (shortlist b out)) r in
+pub shortlist_right : (d : Desk) (b out : List ℕ) (n : ℕ) → Returns d (shortlist b out) (accepted n)
+    → (n ≤ length out) × IsShortlist b (take n (lent_after d (shortlist b out)))
+shortlist_right d b out n r =
+    let said = accepted_is (lent_size d (shortlist b out)) (number_of d (shortlist b out)) r in
     let e = sym said.0 in
-    let a = not-refused b (length out) e in
+    let a = not_refused b (length out) e in
     let room = (comparable b (length out) e).1 in
-    let few = (book-some b a).1 in
-    let right : IsShortlist b (listed (allTables b)) = record {
-      in-book-order = in_order b;
-      unbeaten = book-unbeaten b a;
-      together = book-equals b a;
-      beaten = book-beaten b a;
-      some = (book-some b a).0;
+    let few = (book_some b a).1 in
+    let right : IsShortlist b (listed (all_tables b)) = record {
+      in_book_order = in_order b;
+      unbeaten = book_unbeaten b a;
+      together = book_equals b a;
+      beaten = book_beaten b a;
+      some = (book_some b a).0;
     } in
-    rw said.1 (omega (arith, few, room), rw (numbers-are d b out e) right)
+    rw said.1 (omega (arith, few, room), rw (numbers_are d b out e) right)
 
-pub raters-compared : (calls : List Call) (b out : List ℕ) (i j : ℕ) → number_of (deskAfter calls) (shortlist b out) ≡ 0 → Rater b i → Rater b j
-    → held 1 calls ≡ table (tableOfRater b i) → held 2 calls ≡ table (tableOfRater b j)
-    → (r : Answer Verdict) → Compares (deskAfter calls) r → SettledBy (tableOfRater b i) (tableOfRater b j) r
+pub raters-compared : (calls : List Call) (b out : List ℕ) (i j : ℕ) → number_of (desk_after_lem calls) (shortlist b out) ≡ 0 → Rater b i → Rater b j
+    → held 1 calls ≡ table (table_of_rater b i) → held 2 calls ≡ table (table_of_rater b j)
+    → (r : Answer Verdict) → Compares (desk_after_lem calls) r → SettledBy (table_of_rater b i) (table_of_rater b j) r
 raters-compared calls b out i j e p q first second =
     let c = (comparable b (length out) e).0 in
     let same = c.same i j p.0 p.1 q.0 q.1 in
     let m = c.mixed i p.0 p.1 in
-    compare-right calls (tableOfRater b i) (tableOfRater b j) first second same.0 same.1 m.defaulted m.survived
+    compare_right calls (table_of_rater b i) (table_of_rater b j) first second same.0 same.1 m.defaulted m.survived

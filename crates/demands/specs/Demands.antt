@@ -1,22 +1,22 @@
 -- The customer's three demands, each sentence by a name, over all calls and all lists of calls from a fresh desk.
 -- The contract of `demands` in src/lib.rt is all of them, so that the crate is refused where one is not proved.
 use Rattle.std.specs.Prelude.{ℕ, ◌-◌, ◌≤◌, ◌<◌, ◌≡◌, false, ◌↔◌, ◌⊎◌, List, [], ◌∷◌, ◌++◌, length, drop, take, get_or}
-use Rattle.table.specs.Table.{Table, Every, Sound, Mixed, occupied, defaultsIn, survivorsIn, obligorsIn}
+use Rattle.table.specs.Table.{Table, Every, Sound, Mixed, occupied, defaults_in, survivors_in, obligors_in}
 use Rattle.table.specs.Place.{blank}
 use Rattle.book.specs.Bytes.{Byte}
 use Rattle.book.specs.Checks.{fault}
-use Rattle.book.specs.Layout.{raters, start_of, kind_at, headChecks, layoutFault}
+use Rattle.book.specs.Layout.{raters, start_of, kind_at, head_checks, layout_fault}
 use Rattle.book.specs.WrongCut.{WrongCut}
-use Rattle.book.specs.Rows.{tableOfRater, tablesIn}
+use Rattle.book.specs.Rows.{table_of_rater, tables_in}
 use Rattle.book.specs.Fall.{FallsAfter}
 use Rattle.book.specs.Claims as book
-use Rattle.pooling.specs.Numbers.{ratesAtOccupied}
+use Rattle.pooling.specs.Numbers.{rates_at_occupied}
 use Rattle.pooled_place.specs.PooledPlace.{list_of}
 use Rattle.events.specs.Claims as events
 use Rattle.pooling.specs.Regression.{IsRegression}
 use Rattle.pooling.specs.Claims.{RepeatsNextBetter, RepeatsBest}
 use Rattle.cutoff.specs.Cutoff.{AtLeastAsGood}
-use Rattle.cutoff.specs.Verdict.{callsFirst, callsSecond, Settles}
+use Rattle.cutoff.specs.Verdict.{calls_first, calls_second, Settles}
 use Rattle.cutoff.specs.declared.Verdict.{Verdict}
 use Rattle.cutoff.specs.Claims as cutoff
 use Rattle.shares.specs.Verdict.{SettlesByShares}
@@ -27,31 +27,31 @@ use Rattle.shortlist.specs.Claims.{Rater, Has, InBookOrder}
 use Rattle.calls.specs.Answers.{Answer, accepted, refused}
 use Rattle.calls.specs.Calls.{Question, measures, pool, load}
 use Rattle.desk.specs.declared.Desk.{Desk}
-use Rattle.desk.specs.Desk.{placeAt, table_at, SoundDesk}
-use Rattle.desk.specs.Calls.{Call, ask, fill, write, shortlist, change, number_of, after, lent, lentAfter, lentSize, loadedTables}
+use Rattle.desk.specs.Desk.{place_at, table_at, SoundDesk}
+use Rattle.desk.specs.Calls.{Call, ask, fill, write, shortlist, change, number_of, after, lent, lent_after, lent_size, loaded_tables}
 use Rattle.desk.specs.Calls.{Returns, Compares, ComparesByShares}
 use Rattle.desk_c.specs.Image.{image_of, IsImage}
-use Rattle.demands.specs.History.{deskAfter, nothing, table, filled, held, placed, numbers, lending, Keeps}
+use Rattle.demands.specs.History.{desk_after_lem, nothing, table, filled, held, placed, numbers, lending, Keeps}
 use Rattle.demands.specs.EntryPoints.{ServedInC, ServedByDesk}
 
 -- What calls leave.
 
 -- Every desk that calls leave is as the contracts require.
 abbrev pub EveryDeskIsSound : Type 0
-EveryDeskIsSound = (calls : List Call) → SoundDesk (deskAfter calls)
+EveryDeskIsSound = (calls : List Call) → SoundDesk (desk_after_lem calls)
 
 -- "The table in a place is that of the rater loaded there, as it stands in the book lent to that load, n taken as the kind says." R-8: "The table
 -- in a place is from now on the one that its load and the events since have made".
 abbrev pub PlacesHoldWhatWasLoaded : Type 0
 PlacesHoldWhatWasLoaded =
-    (calls : List Call) → deskAfter calls ≡ record { first = placed (held 1 calls); second = placed (held 2 calls) }
+    (calls : List Call) → desk_after_lem calls ≡ record { first = placed (held 1 calls); second = placed (held 2 calls) }
 
 -- R-8: "After every list of events that list equals a pooling of the current counts": of every list of calls, and of each place that holds a table.
 abbrev pub KeptListsArePooled : Type 0
 KeptListsArePooled =
     (calls : List Call) (t : Table)
-    → (held 1 calls ≡ table t → (deskAfter calls).first.pooled ≡ list_of t)
-    × (held 2 calls ≡ table t → (deskAfter calls).second.pooled ≡ list_of t)
+    → (held 1 calls ≡ table t → (desk_after_lem calls).first.pooled ≡ list_of t)
+    × (held 2 calls ≡ table t → (desk_after_lem calls).second.pooled ≡ list_of t)
 
 -- R-8: "Announced rates, other grades' counts and the other place are untouched by an event." The other place: `OtherPlacesAreKept`.
 abbrev pub EventsChangeOneGrade : Type 0
@@ -69,7 +69,7 @@ AnnouncedRatesNeverFall =
 
 -- What a function of the library for C requires of a desk's numbers is what calls from the fresh desk imply, and nothing more.
 abbrev pub CallsLeaveImages : Type 0
-CallsLeaveImages = (calls : List Call) → IsImage (image_of (deskAfter calls))
+CallsLeaveImages = (calls : List Call) → IsImage (image_of (desk_after_lem calls))
 
 -- Demand 1.
 
@@ -85,8 +85,8 @@ EveryCallIsAnswered = (d : Desk) (c : Call) → (number_of d c ≡ 0) ⊎ Has (n
 -- R-2, of load into an empty place: a book that is cut wrong is refused with the number of the cut, whichever of its raters is wanted;
 abbrev pub LoadTellsWrongCuts : Type 0
 LoadTellsWrongCuts =
-    (d : Desk) (i j n : ℕ) (b : List ℕ) → 1 ≤ i → i ≤ 2 → (placeAt d i).loaded ≡ false
-    → fault (headChecks b) ≡ 0 → 1 ≤ j → j ≤ raters b → WrongCut b n → number_of d (change i (load b j)) ≡ n
+    (d : Desk) (i j n : ℕ) (b : List ℕ) → 1 ≤ i → i ≤ 2 → (place_at d i).loaded ≡ false
+    → fault (head_checks b) ≡ 0 → 1 ≤ j → j ≤ raters b → WrongCut b n → number_of d (change i (load b j)) ≡ n
 
 -- and of any load, a number from 31 to 33 is given for such a cut alone.
 abbrev pub LoadMeansWrongCuts : Type 0
@@ -99,25 +99,25 @@ FiveIsNeverGiven = (d : Desk) (c : Call) → number_of d c ≡ 5 → ⊥
 -- R-4, of load into an empty place: "n 0 loads if another grade is occupied", as every table does of a book that is laid out;
 abbrev pub LoadTakesSoundTables : Type 0
 LoadTakesSoundTables =
-    (d : Desk) (i j : ℕ) (b : List ℕ) → 1 ≤ i → i ≤ 2 → (placeAt d i).loaded ≡ false
-    → layoutFault b ≡ 0 → 1 ≤ j → j ≤ raters b → Sound (tableOfRater b j) → number_of d (change i (load b j)) ≡ 0
+    (d : Desk) (i j : ℕ) (b : List ℕ) → 1 ≤ i → i ≤ 2 → (place_at d i).loaded ≡ false
+    → layout_fault b ≡ 0 → 1 ≤ j → j ≤ raters b → Sound (table_of_rater b j) → number_of d (change i (load b j)) ≡ 0
 
 -- and of any load, 9 "means that all grades are empty".
 abbrev pub LoadMeansAllEmpty : Type 0
 LoadMeansAllEmpty =
-    (d : Desk) (i j : ℕ) (b : List ℕ) → number_of d (change i (load b j)) ≡ 9 → occupied (tableOfRater b j) ≡ []
+    (d : Desk) (i j : ℕ) (b : List ℕ) → number_of d (change i (load b j)) ≡ 9 → occupied (table_of_rater b j) ≡ []
 
 -- R-5, of load into an empty place: of a book that is laid out, a table whose announced rates fall is refused with 34;
 abbrev pub LoadTellsFalls : Type 0
 LoadTellsFalls =
-    (d : Desk) (i j k : ℕ) (b : List ℕ) → 1 ≤ i → i ≤ 2 → (placeAt d i).loaded ≡ false
-    → layoutFault b ≡ 0 → 1 ≤ j → j ≤ raters b → FallsAfter (tableOfRater b j) k → number_of d (change i (load b j)) ≡ 34
+    (d : Desk) (i j k : ℕ) (b : List ℕ) → 1 ≤ i → i ≤ 2 → (place_at d i).loaded ≡ false
+    → layout_fault b ≡ 0 → 1 ≤ j → j ≤ raters b → FallsAfter (table_of_rater b j) k → number_of d (change i (load b j)) ≡ 34
 
 -- and of any load, 34 is given for such a table of such a book alone.
 abbrev pub LoadMeansFalls : Type 0
 LoadMeansFalls =
     (d : Desk) (i j : ℕ) (b : List ℕ) → number_of d (change i (load b j)) ≡ 34
-    → (layoutFault b ≡ 0) × (1 ≤ j) × (j ≤ raters b) × ((k : ℕ) × FallsAfter (tableOfRater b j) k)
+    → (layout_fault b ≡ 0) × (1 ≤ j) × (j ≤ raters b) × ((k : ℕ) × FallsAfter (table_of_rater b j) k)
 
 -- "22: place empty": an accepted question is of a table, and of one as document 01 says.
 abbrev pub QuestionsAreOfTables : Type 0
@@ -125,21 +125,21 @@ QuestionsAreOfTables = (d : Desk) → SoundDesk d → (i : ℕ) (q : Question) �
 
 -- "A refusal leaves every buffer and the desk as they were."
 abbrev pub RefusalsChangeNothing : Type 0
-RefusalsChangeNothing = (d : Desk) (c : Call) → (number_of d c ≡ 0 → ⊥) → (after d c ≡ d) × (lentAfter d c ≡ lent c)
+RefusalsChangeNothing = (d : Desk) (c : Call) → (number_of d c ≡ 0 → ⊥) → (after d c ≡ d) × (lent_after d c ≡ lent c)
 
 -- "Lent memory is changed by accepted calls only, and only where document 01 says": nothing behind the numbers that the call writes.
 abbrev pub OnlyWhatIsWrittenChanges : Type 0
 OnlyWhatIsWrittenChanges =
     (d : Desk) (c : Call)
-    → (length (lentAfter d c) ≡ length (lent c)) × (drop (lentSize d c) (lentAfter d c) ≡ drop (lentSize d c) (lent c))
+    → (length (lent_after d c) ≡ length (lent c)) × (drop (lent_size d c) (lent_after d c) ≡ drop (lent_size d c) (lent c))
 
 -- and up to there nothing of what the buffer held: c writes the same into any other buffer, out, in which it has room.
 abbrev pub WhatIsWrittenIsGiven : Type 0
 WhatIsWrittenIsGiven =
     (d : Desk) (c : Call) (out : List ℕ) → number_of d c ≡ 0 → number_of d (lending out c) ≡ 0
-    → (lentSize d c ≤ length (lent c))
-    × (lentSize d (lending out c) ≡ lentSize d c)
-    × (take (lentSize d c) (lentAfter d (lending out c)) ≡ take (lentSize d c) (lentAfter d c))
+    → (lent_size d c ≤ length (lent c))
+    × (lent_size d (lending out c) ≡ lent_size d c)
+    × (take (lent_size d c) (lent_after d (lending out c)) ≡ take (lent_size d c) (lent_after d c))
 
 -- "Load fills an empty place, clear makes a loaded one as it is on a fresh desk": the other place stays as it was, and R-8: "Announced rates,
 -- other grades' counts and the other place are untouched by an event."
@@ -157,15 +157,15 @@ BooksGoBothWays = book.ReadingIsSound × book.WrittenBookReadsBack × book.ReadB
 abbrev pub WrittenBooksLoadBack : Type 0
 WrittenBooksLoadBack =
     (d : Desk) → SoundDesk d → (out : List ℕ) (n : ℕ) → Returns d (write out) (accepted n)
-    → (j : ℕ) → 1 ≤ j → j ≤ length (loadedTables d)
-    → filled nothing (take n (lentAfter d (write out))) j ≡ table (get_or (loadedTables d) (j - 1) [])
+    → (j : ℕ) → 1 ≤ j → j ≤ length (loaded_tables d)
+    → filled nothing (take n (lent_after d (write out))) j ≡ table (get_or (loaded_tables d) (j - 1) [])
 
 -- The other way: where the loaded places hold all the tables of a book whose columns are of kind 0, write leaves the bytes of that book.
 abbrev pub LoadedBooksWriteBack : Type 0
 LoadedBooksWriteBack =
-    (b : List ℕ) → Every Byte b → layoutFault b ≡ 0 → ((j : ℕ) → 1 ≤ j → j ≤ raters b → kind_at b (start_of b j) ≡ 0)
-    → (d : Desk) → loadedTables d ≡ tablesIn b 1 (raters b) → (out : List ℕ) → number_of d (write out) ≡ 0
-    → lentAfter d (write out) ≡ b ++ drop (length b) out
+    (b : List ℕ) → Every Byte b → layout_fault b ≡ 0 → ((j : ℕ) → 1 ≤ j → j ≤ raters b → kind_at b (start_of b j) ≡ 0)
+    → (d : Desk) → loaded_tables d ≡ tables_in b 1 (raters b) → (out : List ℕ) → number_of d (write out) ≡ 0
+    → lent_after d (write out) ≡ b ++ drop (length b) out
 
 -- "Curve areas, Gini, Pietra and Brier agree with their published definitions as whole-number fractions."
 abbrev pub MeasuresArePublished : Type 0
@@ -187,14 +187,14 @@ MeasuredTablesAreMixed =
 abbrev pub PoolWritesTheRegression : Type 0
 PoolWritesTheRegression =
     (d : Desk) → SoundDesk d → (i : ℕ) (out : List ℕ) → number_of d (fill i pool out) ≡ 0
-    → IsRegression (occupied (table_at d i)) (ratesAtOccupied (table_at d i) (lentAfter d (fill i pool out)))
+    → IsRegression (occupied (table_at d i)) (rates_at_occupied (table_at d i) (lent_after d (fill i pool out)))
 
 -- R-4: "Pool repeats for it the three numbers of the next better occupied grade, or of the best occupied grade if none is better": in what an
 -- accepted pool leaves.
 abbrev pub PoolRepeatsForEmptyGrades : Type 0
 PoolRepeatsForEmptyGrades =
     (d : Desk) (i : ℕ) (out : List ℕ) → number_of d (fill i pool out) ≡ 0
-    → RepeatsNextBetter (table_at d i) (lentAfter d (fill i pool out)) × RepeatsBest (table_at d i) (lentAfter d (fill i pool out))
+    → RepeatsNextBetter (table_at d i) (lent_after d (fill i pool out)) × RepeatsBest (table_at d i) (lent_after d (fill i pool out))
 
 -- Demand 3.
 
@@ -209,8 +209,8 @@ SettledBy t₁ t₂ (refused n) = ⊥
 abbrev pub CompareIsRight : Type 0
 CompareIsRight =
     (calls : List Call) (t₁ t₂ : Table) → held 1 calls ≡ table t₁ → held 2 calls ≡ table t₂
-    → defaultsIn t₁ ≡ defaultsIn t₂ → survivorsIn t₁ ≡ survivorsIn t₂ → 1 ≤ defaultsIn t₁ → 1 ≤ survivorsIn t₁
-    → (r : Answer Verdict) → Compares (deskAfter calls) r → SettledBy t₁ t₂ r
+    → defaults_in t₁ ≡ defaults_in t₂ → survivors_in t₁ ≡ survivors_in t₂ → 1 ≤ defaults_in t₁ → 1 ≤ survivors_in t₁
+    → (r : Answer Verdict) → Compares (desk_after_lem calls) r → SettledBy t₁ t₂ r
 
 -- R-6, in the words of demand 3: "It gives the same four verdicts, under the same meaning over all whole-number prices. The pairs carried have
 -- prices up to 2,500,000,000." "It takes tables of at most 100,000 obligors": of any two such raters, whatever their totals. Of every answer that
@@ -222,12 +222,12 @@ SettledByShares t₁ t₂ (refused n) = ⊥
 abbrev pub CompareSharesIsRight : Type 0
 CompareSharesIsRight =
     (calls : List Call) (t₁ t₂ : Table) → held 1 calls ≡ table t₁ → held 2 calls ≡ table t₂
-    → 1 ≤ defaultsIn t₁ → 1 ≤ survivorsIn t₁ → 1 ≤ defaultsIn t₂ → 1 ≤ survivorsIn t₂ → obligorsIn t₁ ≤ 100_000 → obligorsIn t₂ ≤ 100_000
-    → (r : Answer Verdict) → ComparesByShares (deskAfter calls) r → SettledByShares t₁ t₂ r
+    → 1 ≤ defaults_in t₁ → 1 ≤ survivors_in t₁ → 1 ≤ defaults_in t₂ → 1 ≤ survivors_in t₂ → obligors_in t₁ ≤ 100_000 → obligors_in t₂ ≤ 100_000
+    → (r : Answer Verdict) → ComparesByShares (desk_after_lem calls) r → SettledByShares t₁ t₂ r
 
 -- "On tables with equal totals it must agree in verdict with the first comparison": where both answer, they answer the same kind.
 abbrev pub SameKind : Answer Verdict → Answer Verdict → Type 0
-SameKind (accepted v) (accepted w) = (callsFirst v ≡ callsFirst w) × (callsSecond v ≡ callsSecond w)
+SameKind (accepted v) (accepted w) = (calls_first v ≡ calls_first w) × (calls_second v ≡ calls_second w)
 SameKind (accepted v) (refused n) = Unit {0}
 SameKind (refused n) s = Unit {0}
 
@@ -238,33 +238,33 @@ ComparisonsAgree =
 -- R-7: "List the raters for which no other rater of the book is better, in book order .. Of raters that are equal, all are listed or none. Every
 -- unlisted rater is beaten by a listed one." l is such a list of the raters of the book b.
 pub record IsShortlist (b l : List ℕ) : Type 0 where
-  pub in-book-order : InBookOrder l
-  pub unbeaten : (i : ℕ) → Has i l ↔ (Rater b i × ((j : ℕ) → Rater b j → Better (tableOfRater b j) (tableOfRater b i) → ⊥))
+  pub in_book_order : InBookOrder l
+  pub unbeaten : (i : ℕ) → Has i l ↔ (Rater b i × ((j : ℕ) → Rater b j → Better (table_of_rater b j) (table_of_rater b i) → ⊥))
   pub together : (i j : ℕ) → Rater b i → Rater b j
-      → AtLeastAsGood (tableOfRater b i) (tableOfRater b j) → AtLeastAsGood (tableOfRater b j) (tableOfRater b i) → Has i l ↔ Has j l
-  pub beaten : (i : ℕ) → Rater b i → (Has i l → ⊥) → (j : ℕ) × Has j l × Better (tableOfRater b j) (tableOfRater b i)
+      → AtLeastAsGood (table_of_rater b i) (table_of_rater b j) → AtLeastAsGood (table_of_rater b j) (table_of_rater b i) → Has i l ↔ Has j l
+  pub beaten : (i : ℕ) → Rater b i → (Has i l → ⊥) → (j : ℕ) × Has j l × Better (table_of_rater b j) (table_of_rater b i)
   pub some : 1 ≤ length l
 
 -- "and return how many": so are the first n numbers that an accepted shortlist leaves in the buffer, which returns n.
 abbrev pub ShortlistIsRight : Type 0
 ShortlistIsRight =
     (d : Desk) (b out : List ℕ) (n : ℕ) → Returns d (shortlist b out) (accepted n)
-    → (n ≤ length out) × IsShortlist b (take n (lentAfter d (shortlist b out)))
+    → (n ≤ length out) × IsShortlist b (take n (lent_after d (shortlist b out)))
 
 -- The shortlist is of a book and a buffer alone: every desk answers it alike.
 abbrev pub ShortlistNeedsNoDesk : Type 0
 ShortlistNeedsNoDesk =
     (d e : Desk) (b out : List ℕ)
     → (number_of d (shortlist b out) ≡ number_of e (shortlist b out))
-    × (lentSize d (shortlist b out) ≡ lentSize e (shortlist b out))
-    × (lentAfter d (shortlist b out) ≡ lentAfter e (shortlist b out))
+    × (lent_size d (shortlist b out) ≡ lent_size e (shortlist b out))
+    × (lent_after d (shortlist b out) ≡ lent_after e (shortlist b out))
 
 -- Any two raters of a book whose shortlist is accepted are compared, once they are loaded: what compare answers settles which of them is better.
 abbrev pub ShortlistedRatersAreCompared : Type 0
 ShortlistedRatersAreCompared =
-    (calls : List Call) (b out : List ℕ) (i j : ℕ) → number_of (deskAfter calls) (shortlist b out) ≡ 0 → Rater b i → Rater b j
-    → held 1 calls ≡ table (tableOfRater b i) → held 2 calls ≡ table (tableOfRater b j)
-    → (r : Answer Verdict) → Compares (deskAfter calls) r → SettledBy (tableOfRater b i) (tableOfRater b j) r
+    (calls : List Call) (b out : List ℕ) (i j : ℕ) → number_of (desk_after_lem calls) (shortlist b out) ≡ 0 → Rater b i → Rater b j
+    → held 1 calls ≡ table (table_of_rater b i) → held 2 calls ≡ table (table_of_rater b j)
+    → (r : Answer Verdict) → Compares (desk_after_lem calls) r → SettledBy (table_of_rater b i) (table_of_rater b j) r
 
 -- Every table has a cheapest cost on shares at every pair of prices, and one, which is a proper fraction where the comparison takes the table.
 abbrev pub EveryTableHasOneCheapestShare : Type 0
@@ -285,41 +285,41 @@ PoolingKeepsTheCheapestCost = cutoff.PooledScaleCostsTheSame
 
 -- All of them: what the function `demands` of this crate promises.
 pub record Demands : Type 0 where
-  pub every-desk-is-sound : EveryDeskIsSound
-  pub places-hold-what-was-loaded : PlacesHoldWhatWasLoaded
-  pub kept-lists-are-pooled : KeptListsArePooled
-  pub events-change-one-grade : EventsChangeOneGrade
-  pub every-held-table-is-sound : EveryHeldTableIsSound
-  pub announced-rates-never-fall : AnnouncedRatesNeverFall
-  pub calls-leave-images : CallsLeaveImages
-  pub every-call-is-served : EveryCallIsServed
-  pub every-call-is-answered : EveryCallIsAnswered
-  pub load-tells-wrong-cuts : LoadTellsWrongCuts
-  pub load-means-wrong-cuts : LoadMeansWrongCuts
-  pub five-is-never-given : FiveIsNeverGiven
-  pub load-takes-sound-tables : LoadTakesSoundTables
-  pub load-means-all-empty : LoadMeansAllEmpty
-  pub load-tells-falls : LoadTellsFalls
-  pub load-means-falls : LoadMeansFalls
-  pub questions-are-of-tables : QuestionsAreOfTables
-  pub refusals-change-nothing : RefusalsChangeNothing
-  pub only-what-is-written-changes : OnlyWhatIsWrittenChanges
-  pub what-is-written-is-given : WhatIsWrittenIsGiven
-  pub other-places-are-kept : OtherPlacesAreKept
-  pub books-go-both-ways : BooksGoBothWays
-  pub written-books-load-back : WrittenBooksLoadBack
-  pub loaded-books-write-back : LoadedBooksWriteBack
-  pub measures-are-published : MeasuresArePublished
-  pub measured-tables-are-mixed : MeasuredTablesAreMixed
-  pub pool-writes-the-regression : PoolWritesTheRegression
-  pub pool-repeats-for-empty-grades : PoolRepeatsForEmptyGrades
-  pub compare-is-right : CompareIsRight
-  pub compare-shares-is-right : CompareSharesIsRight
-  pub comparisons-agree : ComparisonsAgree
-  pub shortlist-is-right : ShortlistIsRight
-  pub shortlist-needs-no-desk : ShortlistNeedsNoDesk
-  pub shortlisted-raters-are-compared : ShortlistedRatersAreCompared
-  pub every-table-has-one-cheapest-share : EveryTableHasOneCheapestShare
-  pub sizes-play-no-part : SizesPlayNoPart
-  pub every-table-has-one-cheapest-cost : EveryTableHasOneCheapestCost
-  pub pooling-keeps-the-cheapest-cost : PoolingKeepsTheCheapestCost
+  pub every_desk_is_sound : EveryDeskIsSound
+  pub places_hold_what_was_loaded : PlacesHoldWhatWasLoaded
+  pub kept_lists_are_pooled : KeptListsArePooled
+  pub events_change_one_grade : EventsChangeOneGrade
+  pub every_held_table_is_sound : EveryHeldTableIsSound
+  pub announced_rates_never_fall : AnnouncedRatesNeverFall
+  pub calls_leave_images : CallsLeaveImages
+  pub every_call_is_served : EveryCallIsServed
+  pub every_call_is_answered : EveryCallIsAnswered
+  pub load_tells_wrong_cuts : LoadTellsWrongCuts
+  pub load_means_wrong_cuts : LoadMeansWrongCuts
+  pub five_is_never_given : FiveIsNeverGiven
+  pub load_takes_sound_tables : LoadTakesSoundTables
+  pub load_means_all_empty : LoadMeansAllEmpty
+  pub load_tells_falls : LoadTellsFalls
+  pub load_means_falls : LoadMeansFalls
+  pub questions_are_of_tables : QuestionsAreOfTables
+  pub refusals_change_nothing : RefusalsChangeNothing
+  pub only_what_is_written_changes : OnlyWhatIsWrittenChanges
+  pub what_is_written_is_given : WhatIsWrittenIsGiven
+  pub other_places_are_kept : OtherPlacesAreKept
+  pub books_go_both_ways : BooksGoBothWays
+  pub written_books_load_back : WrittenBooksLoadBack
+  pub loaded_books_write_back : LoadedBooksWriteBack
+  pub measures_are_published : MeasuresArePublished
+  pub measured_tables_are_mixed : MeasuredTablesAreMixed
+  pub pool_writes_the_regression : PoolWritesTheRegression
+  pub pool_repeats_for_empty_grades : PoolRepeatsForEmptyGrades
+  pub compare_is_right : CompareIsRight
+  pub compare_shares_is_right : CompareSharesIsRight
+  pub comparisons_agree : ComparisonsAgree
+  pub shortlist_is_right : ShortlistIsRight
+  pub shortlist_needs_no_desk : ShortlistNeedsNoDesk
+  pub shortlisted_raters_are_compared : ShortlistedRatersAreCompared
+  pub every_table_has_one_cheapest_share : EveryTableHasOneCheapestShare
+  pub sizes_play_no_part : SizesPlayNoPart
+  pub every_table_has_one_cheapest_cost : EveryTableHasOneCheapestCost
+  pub pooling_keeps_the_cheapest_cost : PoolingKeepsTheCheapestCost

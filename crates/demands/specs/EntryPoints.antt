@@ -5,16 +5,16 @@ use Rattle.std.specs.Prelude.{◌≡◌, List, [], ℕ}
 use contract.Lifetimes.{Lfts}
 use denote.Triple.Entry.{Args, Res}
 use denote.Triple.Clauses.{Ended, AtExit}
-use Rattle.calls.specs.Answers.{Answer, accepted, refused, leaves, cheapestSays, compareSays, measuresSays, brierSays, spreadSays}
+use Rattle.calls.specs.Answers.{Answer, accepted, refused, leaves, cheapest_says, compare_says, measures_says, brier_says, spread_says}
 use Rattle.calls.specs.Calls.{cheapest, measures, brier, spread, pool, load, clear, event}
 use Rattle.events.specs.declared.Event.TheVariants.{SurvivorEnters, SurvivorLeaves, SurvivorDefaults, DefaultedRemoved}
-use Rattle.desk.specs.Desk.{freshDesk}
-use Rattle.desk.specs.Answers.{ackSays, writtenSays, shortlistedSays}
+use Rattle.desk.specs.Desk.{fresh_desk}
+use Rattle.desk.specs.Answers.{ack_says, written_says, shortlisted_says}
 use Rattle.desk.specs.declared.Desk.{Desk}
 use Rattle.desk.proofs.Desk as method
 use Rattle.desk.proofs.shortlist as listing
-use Rattle.desk.specs.Calls.{Call, ask, compare, compareShares, fill, write, shortlist, change, number_of, after, lentAfter, lentSize, Returns}
-use Rattle.desk_c.specs.Image.{image_of, deskIn}
+use Rattle.desk.specs.Calls.{Call, ask, compare, compare_on_shares, fill, write, shortlist, change, number_of, after, lent_after, lent_size, Returns}
+use Rattle.desk_c.specs.Image.{image_of, desk_in}
 use Rattle.desk_c.proofs.desk_load as desk_load
 use Rattle.desk_c.proofs.desk_clear as desk_clear
 use Rattle.desk_c.proofs.desk_survivor_enters as desk_survivor_enters
@@ -46,19 +46,19 @@ Promises f contract P =
 pub record Serves (d : Desk) (c : Call) (n : ℕ) (left : Desk) (numbers : List ℕ) : Type 0 where
   pub number : n ≡ number_of d c
   pub desk : left ≡ after d c
-  pub buffer : numbers ≡ lentAfter d c
+  pub buffer : numbers ≡ lent_after d c
 
 -- The library for C.
 
 -- the same of the desk in an image, and of an image
 pub record ServesImage (image : List ℕ) (c : Call) (n : ℕ) (left numbers : List ℕ) : Type 0 where
-  pub number : n ≡ number_of (deskIn image) c
-  pub desk : left ≡ image_of (after (deskIn image) c)
-  pub buffer : numbers ≡ lentAfter (deskIn image) c
+  pub number : n ≡ number_of (desk_in image) c
+  pub desk : left ≡ image_of (after (desk_in image) c)
+  pub buffer : numbers ≡ lent_after (desk_in image) c
 
 -- where the count was old, it is new: how much was written, or as it was
 abbrev pub CountLeft : (d : Desk) (c : Call) (n old new : ℕ) → Type 0
-CountLeft d c n old new = new ≡ leaves n old (lentSize d c)
+CountLeft d c n old new = new ≡ leaves n old (lent_size d c)
 
 abbrev pub ServedInC : Call → Type 0
 ServedInC (ask i (cheapest u v)) =
@@ -71,8 +71,8 @@ ServedInC (ask i brier) =
 ServedInC (ask i spread) =
     Promises desk_spread.ended desk_spread.Reads.Post (λ κs a n s. a.1.0 ≡ i → ServesImage a.0.now (ask i spread) n a.0.now [])
 ServedInC compare = Promises desk_compare.ended desk_compare.Reads.Post (λ κs a n s. ServesImage a.0.now compare n a.0.now [])
-ServedInC compareShares =
-    Promises desk_compare_shares.ended desk_compare_shares.Reads.Post (λ κs a n s. ServesImage a.0.now compareShares n a.0.now [])
+ServedInC compare_on_shares =
+    Promises desk_compare_shares.ended desk_compare_shares.Reads.Post (λ κs a n s. ServesImage a.0.now compare_on_shares n a.0.now [])
 ServedInC (fill i pool out) =
     Promises desk_pool.ended desk_pool.Reads.Post
     (λ κs a n s. a.1.0 ≡ i → a.1.1.0.now ≡ out → ServesImage a.0.now (fill i pool out) n a.0.now s.1.1.0.now)
@@ -80,12 +80,12 @@ ServedInC (write out) =
     Promises desk_write.ended desk_write.Reads.Post
     (λ κs a n s. a.1.0.now ≡ out
     → ServesImage a.0.now (write out) n a.0.now s.1.0.now
-    × CountLeft (deskIn a.0.now) (write out) n a.1.1.0.now s.1.1.0.now)
+    × CountLeft (desk_in a.0.now) (write out) n a.1.1.0.now s.1.1.0.now)
 ServedInC (shortlist book out) =
     Promises desk_shortlist.ended desk_shortlist.Reads.Post
     (λ κs a n s. a.0.now ≡ book → a.1.0.now ≡ out
-    → Serves freshDesk (shortlist book out) n freshDesk s.1.0.now
-    × CountLeft freshDesk (shortlist book out) n a.1.1.0.now s.1.1.0.now)
+    → Serves fresh_desk (shortlist book out) n fresh_desk s.1.0.now
+    × CountLeft fresh_desk (shortlist book out) n a.1.1.0.now s.1.1.0.now)
 ServedInC (change i (load book rater)) =
     Promises desk_load.ended desk_load.Reads.Post
     (λ κs a n s. a.1.0 ≡ i → a.1.1.0.now ≡ book → a.1.1.1.0 ≡ rater
@@ -115,46 +115,46 @@ number_in (refused n) = n
 abbrev pub ServedByDesk : Call → Type 0
 ServedByDesk (ask i (cheapest u v)) =
     Promises method.cheapest.ended method.cheapest.Reads.Post
-    (λ κs a r s. a.1.0 ≡ i → a.1.1.0 ≡ u → a.1.1.1.0 ≡ v → Serves a.0 (ask i (cheapest u v)) (number_in (cheapestSays r)) a.0 [])
+    (λ κs a r s. a.1.0 ≡ i → a.1.1.0 ≡ u → a.1.1.1.0 ≡ v → Serves a.0 (ask i (cheapest u v)) (number_in (cheapest_says r)) a.0 [])
 ServedByDesk (ask i measures) =
     Promises method.measures.ended method.measures.Reads.Post
-    (λ κs a r s. a.1.0 ≡ i → Serves a.0 (ask i measures) (number_in (measuresSays r)) a.0 [])
+    (λ κs a r s. a.1.0 ≡ i → Serves a.0 (ask i measures) (number_in (measures_says r)) a.0 [])
 ServedByDesk (ask i brier) =
-    Promises method.brier.ended method.brier.Reads.Post (λ κs a r s. a.1.0 ≡ i → Serves a.0 (ask i brier) (number_in (brierSays r)) a.0 [])
+    Promises method.brier.ended method.brier.Reads.Post (λ κs a r s. a.1.0 ≡ i → Serves a.0 (ask i brier) (number_in (brier_says r)) a.0 [])
 ServedByDesk (ask i spread) =
-    Promises method.spread.ended method.spread.Reads.Post (λ κs a r s. a.1.0 ≡ i → Serves a.0 (ask i spread) (number_in (spreadSays r)) a.0 [])
+    Promises method.spread.ended method.spread.Reads.Post (λ κs a r s. a.1.0 ≡ i → Serves a.0 (ask i spread) (number_in (spread_says r)) a.0 [])
 ServedByDesk compare =
-    Promises method.compare.ended method.compare.Reads.Post (λ κs a r s. Serves a.0 compare (number_in (compareSays r)) a.0 [])
-ServedByDesk compareShares =
-    Promises method.compare_shares.ended method.compare_shares.Reads.Post (λ κs a r s. Serves a.0 compareShares (number_in (compareSays r)) a.0 [])
+    Promises method.compare.ended method.compare.Reads.Post (λ κs a r s. Serves a.0 compare (number_in (compare_says r)) a.0 [])
+ServedByDesk compare_on_shares =
+    Promises method.compare_shares.ended method.compare_shares.Reads.Post (λ κs a r s. Serves a.0 compare_on_shares (number_in (compare_says r)) a.0 [])
 ServedByDesk (fill i pool out) =
     Promises method.pool.ended method.pool.Reads.Post
-    (λ κs a r s. a.1.0 ≡ i → a.1.1.0.now ≡ out → Serves a.0 (fill i pool out) (number_in (ackSays r)) a.0 s.1.1.0.now)
+    (λ κs a r s. a.1.0 ≡ i → a.1.1.0.now ≡ out → Serves a.0 (fill i pool out) (number_in (ack_says r)) a.0 s.1.1.0.now)
 ServedByDesk (write out) =
     Promises method.write.ended method.write.Reads.Post
     (λ κs a r s. a.1.0.now ≡ out
-    → Serves a.0 (write out) (number_in (writtenSays r)) a.0 s.1.0.now × Returns a.0 (write out) (writtenSays r))
+    → Serves a.0 (write out) (number_in (written_says r)) a.0 s.1.0.now × Returns a.0 (write out) (written_says r))
 ServedByDesk (shortlist book out) =
     Promises listing.ended listing.Reads.Post
     (λ κs a r s. a.0.now ≡ book → a.1.0.now ≡ out
-    → Serves freshDesk (shortlist book out) (number_in (shortlistedSays r)) freshDesk s.1.0.now
-    × Returns freshDesk (shortlist book out) (shortlistedSays r))
+    → Serves fresh_desk (shortlist book out) (number_in (shortlisted_says r)) fresh_desk s.1.0.now
+    × Returns fresh_desk (shortlist book out) (shortlisted_says r))
 ServedByDesk (change i (load book rater)) =
     Promises method.load.ended method.load.Reads.Post
     (λ κs a r s. a.1.0 ≡ i → a.1.1.0.now ≡ book → a.1.1.1.0 ≡ rater
-    → Serves a.0 (change i (load book rater)) (number_in (ackSays r.ack)) r.desk [])
+    → Serves a.0 (change i (load book rater)) (number_in (ack_says r.ack)) r.desk [])
 ServedByDesk (change i clear) =
     Promises method.clear.ended method.clear.Reads.Post
-    (λ κs a r s. a.1.0 ≡ i → Serves a.0 (change i clear) (number_in (ackSays r.ack)) r.desk [])
+    (λ κs a r s. a.1.0 ≡ i → Serves a.0 (change i clear) (number_in (ack_says r.ack)) r.desk [])
 ServedByDesk (change i (event SurvivorEnters g)) =
     Promises method.survivor_enters.ended method.survivor_enters.Reads.Post
-    (λ κs a r s. a.1.0 ≡ i → a.1.1.0 ≡ g → Serves a.0 (change i (event SurvivorEnters g)) (number_in (ackSays r.ack)) r.desk [])
+    (λ κs a r s. a.1.0 ≡ i → a.1.1.0 ≡ g → Serves a.0 (change i (event SurvivorEnters g)) (number_in (ack_says r.ack)) r.desk [])
 ServedByDesk (change i (event SurvivorLeaves g)) =
     Promises method.survivor_leaves.ended method.survivor_leaves.Reads.Post
-    (λ κs a r s. a.1.0 ≡ i → a.1.1.0 ≡ g → Serves a.0 (change i (event SurvivorLeaves g)) (number_in (ackSays r.ack)) r.desk [])
+    (λ κs a r s. a.1.0 ≡ i → a.1.1.0 ≡ g → Serves a.0 (change i (event SurvivorLeaves g)) (number_in (ack_says r.ack)) r.desk [])
 ServedByDesk (change i (event SurvivorDefaults g)) =
     Promises method.survivor_defaults.ended method.survivor_defaults.Reads.Post
-    (λ κs a r s. a.1.0 ≡ i → a.1.1.0 ≡ g → Serves a.0 (change i (event SurvivorDefaults g)) (number_in (ackSays r.ack)) r.desk [])
+    (λ κs a r s. a.1.0 ≡ i → a.1.1.0 ≡ g → Serves a.0 (change i (event SurvivorDefaults g)) (number_in (ack_says r.ack)) r.desk [])
 ServedByDesk (change i (event DefaultedRemoved g)) =
     Promises method.defaulted_removed.ended method.defaulted_removed.Reads.Post
-    (λ κs a r s. a.1.0 ≡ i → a.1.1.0 ≡ g → Serves a.0 (change i (event DefaultedRemoved g)) (number_in (ackSays r.ack)) r.desk [])
+    (λ κs a r s. a.1.0 ≡ i → a.1.1.0 ≡ g → Serves a.0 (change i (event DefaultedRemoved g)) (number_in (ack_says r.ack)) r.desk [])

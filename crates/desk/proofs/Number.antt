@@ -6,18 +6,18 @@ use native.Mathlib.Omega.{arith}
 use native.Mathlib.Decide.{dec_le}
 use borrow.Author.Tests.{eqb-true, not-true, not-false}
 use lib.Dec.{eqb}
-use Rattle.book.specs.Checks.{fault, firstFault}
+use Rattle.book.specs.Checks.{fault, first_fault}
 use Rattle.book.proofs.Checks.{found, pass, over, stop}
-use Rattle.desk.specs.Calls.{placeFault}
+use Rattle.desk.specs.Calls.{place_fault}
 
-pub nowhere : (i : ℕ) → (i ≡ 1 → ⊥) → (i ≡ 2 → ⊥) → 1 ≡ placeFault i
+pub nowhere : (i : ℕ) → (i ≡ 1 → ⊥) → (i ≡ 2 → ⊥) → 1 ≡ place_fault i
 nowhere zero h k = found (over (omega arith))
 nowhere (suc i) h k = found (pass (omega arith) (over (omega arith)))
 
 pub data Number : ℕ → Type 0 where
   one : Number 1
   two : Number 2
-  neither : {i : ℕ} → (i ≡ 1 → ⊥) → (i ≡ 2 → ⊥) → placeFault i ≡ 1 → Number i
+  neither : {i : ℕ} → (i ≡ 1 → ⊥) → (i ≡ 2 → ⊥) → place_fault i ≡ 1 → Number i
 
 none : (i : ℕ) → (i ≡ 1 → ⊥) → (i ≡ 2 → ⊥) → Number i
 none i h k = neither h k (sym (nowhere i h k))
@@ -37,15 +37,15 @@ number i =
 
 -- What the code found of the number i: b says whether there is such a place.
 
-pub there : (i : ℕ) (b : Bool) → b ≡ eqb (placeFault i) 0 → not b ≡ false → placeFault i ≡ 0
-there i b e h = eqb-true (placeFault i) 0 (sym e ∙ not-false b h)
+pub there : (i : ℕ) (b : Bool) → b ≡ eqb (place_fault i) 0 → not b ≡ false → place_fault i ≡ 0
+there i b e h = eqb-true (place_fault i) 0 (sym e ∙ not-false b h)
 
-missing_at : {i : ℕ} → Number i → (b : Bool) → b ≡ eqb (placeFault i) 0 → not b ≡ true → 1 ≡ placeFault i
+missing_at : {i : ℕ} → Number i → (b : Bool) → b ≡ eqb (place_fault i) 0 → not b ≡ true → 1 ≡ place_fault i
 unfolding fault
 missing_at one b e h = let z : ◌≡◌ {A = ℕ} 0 1 = cc (e, not-true b h) in absurd (omega arith)
 missing_at two b e h = let z : ◌≡◌ {A = ℕ} 0 1 = cc (e, not-true b h) in absurd (omega arith)
 missing_at (neither _ _ k) b e h = sym k
 
 -- 1, before every other check
-pub missing : (i : ℕ) (b : Bool) (rest : ℕ) → b ≡ eqb (placeFault i) 0 → not b ≡ true → 1 ≡ firstFault (placeFault i) rest
+pub missing : (i : ℕ) (b : Bool) (rest : ℕ) → b ≡ eqb (place_fault i) 0 → not b ≡ true → 1 ≡ first_fault (place_fault i) rest
 missing i b rest e h = stop rest (missing_at (number i) b e h) (λ z. omega arith)

@@ -9,16 +9,16 @@ use Rattle.desk.specs.declared.Ack.{Ack}
 use Rattle.desk.specs.declared.Ack.TheVariants as ack
 
 -- "An accepted load, clear or pool answers nothing further."
-abbrev pub ackSays : Ack → Answer (Unit {0})
-ackSays ack.Done = accepted tt
-ackSays (ack.Refused n) = refused n
+abbrev pub ack_says : Ack → Answer (Unit {0})
+ack_says ack.Done = accepted tt
+ack_says (ack.Refused n) = refused n
 
 -- the length of the book
-abbrev pub writtenSays : Written → Answer ℕ
-writtenSays (written.Length n) = accepted n
-writtenSays (written.Refused n) = refused n
+abbrev pub written_says : Written → Answer ℕ
+written_says (written.Length n) = accepted n
+written_says (written.Refused n) = refused n
 
 -- how many raters are listed
-abbrev pub shortlistedSays : Shortlisted → Answer ℕ
-shortlistedSays (shortlisted.Count n) = accepted n
-shortlistedSays (shortlisted.Refused n) = refused n
+abbrev pub shortlisted_says : Shortlisted → Answer ℕ
+shortlisted_says (shortlisted.Count n) = accepted n
+shortlisted_says (shortlisted.Refused n) = refused n

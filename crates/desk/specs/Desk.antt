@@ -4,28 +4,28 @@ use Rattle.table.specs.Table.{Table}
 use Rattle.table.specs.Place.{table_of}
 use Rattle.table.specs.declared.Place.{Place}
 use Rattle.pooled_place.specs.declared.PooledPlace.{PooledPlace}
-use Rattle.pooled_place.specs.PooledPlace.{freshPooledPlace, SoundPooledPlace}
+use Rattle.pooled_place.specs.PooledPlace.{fresh_pooled_place, SoundPooledPlace}
 use Rattle.desk.specs.declared.Desk.{Desk}
 
 -- "A fresh desk has both places empty."
-abbrev pub freshDesk : Desk
-freshDesk = record { first = freshPooledPlace; second = freshPooledPlace }
+abbrev pub fresh_desk : Desk
+fresh_desk = record { first = fresh_pooled_place; second = fresh_pooled_place }
 
 -- place i of a desk, for i 1 or 2, with its pooled list
-abbrev pub pooledPlaceAt : Desk → ℕ → PooledPlace
-pooledPlaceAt d i = cond (eqb i 1) d.first d.second
+abbrev pub pooled_place_at : Desk → ℕ → PooledPlace
+pooled_place_at d i = cond (eqb i 1) d.first d.second
 
 -- its counts
-abbrev pub placeAt : Desk → ℕ → Place
-placeAt d i = (pooledPlaceAt d i).place
+abbrev pub place_at : Desk → ℕ → Place
+place_at d i = (pooled_place_at d i).place
 
 -- the table in it
 abbrev pub table_at : Desk → ℕ → Table
-table_at d i = table_of (placeAt d i)
+table_at d i = table_of (place_at d i)
 
 -- the desk with another place i
-abbrev pub withPlace : Desk → ℕ → PooledPlace → Desk
-withPlace d i p = cond (eqb i 1) (record { first = p; second = d.second }) (record { first = d.first; second = p })
+abbrev pub with_place_lem : Desk → ℕ → PooledPlace → Desk
+with_place_lem d i p = cond (eqb i 1) (record { first = p; second = d.second }) (record { first = d.first; second = p })
 
 -- The one thing that a contract requires of a desk: each place is empty or holds a table with its pooled list. `EveryDeskIsSound` shows that calls
 -- imply it.

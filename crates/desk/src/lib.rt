@@ -2,17 +2,17 @@
 // leaves the rest to the call on words of its name in the crate `calls`.
 ghost use Rattle.std.specs.Prelude.{◌≡◌, eqb, length};
 ghost use Rattle.table.specs.Words.{words_of};
-ghost use Rattle.pooled_place.specs.PooledPlace.{markedPooledPlace};
-ghost use Rattle.pooled_place.specs.Words.{pooledPlaceSize, pooledPlaceWords, pooledPlaceIn};
-ghost use Rattle.cutoff.specs.Cutoff.{cheapestOf};
-ghost use Rattle.measures.specs.Measures.{measuresOf};
-ghost use Rattle.measures.specs.Brier.{brierOf};
-ghost use Rattle.calls.specs.Answers.{answer, leaves, cheapestSays, compareSays, measuresSays, brierSays, spreadSays};
+ghost use Rattle.pooled_place.specs.PooledPlace.{marked_pooled_place};
+ghost use Rattle.pooled_place.specs.Words.{pooled_place_size, pooled_place_words, pooled_place_in};
+ghost use Rattle.cutoff.specs.Cutoff.{cheapest_of};
+ghost use Rattle.measures.specs.Measures.{measures_of};
+ghost use Rattle.measures.specs.Brier.{brier_of};
+ghost use Rattle.calls.specs.Answers.{answer, leaves, cheapest_says, compare_says, measures_says, brier_says, spread_says};
 ghost use Rattle.calls.specs.Calls.{cheapest, measures, brier, spread, pool, load, clear, event};
-ghost use Rattle.desk.specs.Desk.{freshDesk, pooledPlaceAt, placeAt, table_at, withPlace, SoundDesk};
-ghost use Rattle.desk.specs.Answers.{ackSays, writtenSays, shortlistedSays};
-ghost use Rattle.desk.specs.Calls.{placeFault, ask, compare, compareShares, fill, write, shortlist, change};
-ghost use Rattle.desk.specs.Calls.{number_of, after, lentAfter, Returns, Compares, ComparesByShares, Spreads};
+ghost use Rattle.desk.specs.Desk.{fresh_desk, pooled_place_at, place_at, table_at, with_place_lem, SoundDesk};
+ghost use Rattle.desk.specs.Answers.{ack_says, written_says, shortlisted_says};
+ghost use Rattle.desk.specs.Calls.{place_fault, ask, compare, compare_on_shares, fill, write, shortlist, change};
+ghost use Rattle.desk.specs.Calls.{number_of, after, lent_after, Returns, Compares, ComparesByShares, Spreads};
 
 use book::Written;
 use calls::{BrierAnswer, CheapestAnswer, CompareAnswer, MeasuresAnswer, SpreadAnswer};
@@ -45,7 +45,7 @@ pub struct Stored {
 
 // Whether there is a place of this number.
 pub fn is_place(place: u32) -> bool
-    ensures { result ≡ eqb (placeFault place) 0 }
+    ensures { result ≡ eqb (place_fault place) 0 }
 {
     match place {
         1 => true,
@@ -56,7 +56,7 @@ pub fn is_place(place: u32) -> bool
 
 // The words of a place without a table, marked as loaded or not.
 fn words_marked(loaded: bool) -> [u32; POOLED_PLACE]
-    ensures { result ≡ pooledPlaceWords (markedPooledPlace loaded) }
+    ensures { result ≡ pooled_place_words (marked_pooled_place loaded) }
 {
     let mut words = [0u32; POOLED_PLACE];
     if loaded {
@@ -68,7 +68,7 @@ fn words_marked(loaded: bool) -> [u32; POOLED_PLACE]
 impl Ack {
     // Of a call that returned 0, or its refusal number.
     fn of(number: u32) -> Ack
-        ensures { ackSays result ≡ answer number tt }
+        ensures { ack_says result ≡ answer number tt }
     {
         if number == 0 {
             Ack::Done
@@ -81,7 +81,7 @@ impl Ack {
 impl Desk {
     // A fresh desk.
     pub fn empty() -> Desk
-        ensures { result ≡ freshDesk }
+        ensures { result ≡ fresh_desk }
     {
         let first = PooledPlace::empty();
         let second = PooledPlace::empty();
@@ -91,7 +91,7 @@ impl Desk {
     // The words of the counts in place 1 or 2.
     fn words(self, place: u32) -> [u32; PLACE]
         requires { SoundDesk self }
-        ensures { result ≡ words_of (placeAt self place) }
+        ensures { result ≡ words_of (place_at self place) }
     {
         if place == 1 {
             let first = self.first;
@@ -107,7 +107,7 @@ impl Desk {
     // The words of place 1 or 2 with its pooled list.
     fn pooled_words(self, place: u32) -> [u32; POOLED_PLACE]
         requires { SoundDesk self }
-        ensures { result ≡ pooledPlaceWords (pooledPlaceAt self place) }
+        ensures { result ≡ pooled_place_words (pooled_place_at self place) }
     {
         if place == 1 {
             self.first.words()
@@ -118,7 +118,7 @@ impl Desk {
 
     // The words of an empty place with the mark of place 1 or 2: all that load and clear look at.
     fn mark(self, place: u32) -> [u32; POOLED_PLACE]
-        ensures { result ≡ pooledPlaceWords (markedPooledPlace (placeAt self place).loaded) }
+        ensures { result ≡ pooled_place_words (marked_pooled_place (place_at self place).loaded) }
     {
         if place == 1 {
             words_marked(self.first.place.loaded)
@@ -129,7 +129,7 @@ impl Desk {
 
     // The desk with another place 1 or 2.
     fn with_place(self, place: u32, other: PooledPlace) -> Desk
-        ensures { result ≡ withPlace self place other }
+        ensures { result ≡ with_place_lem self place other }
     {
         let first = self.first;
         let second = self.second;
@@ -148,9 +148,9 @@ impl Desk {
 
     // What a change hands back that made these words of the place, or was refused.
     fn stored(self, place: u32, refusal: u32, words: &[u32]) -> Stored
-        requires { length words.now ≡ pooledPlaceSize }
-        ensures desk_value { result.desk ≡ leaves refusal self (withPlace self place (pooledPlaceIn words.now)) }
-        ensures ack_value { ackSays result.ack ≡ answer refusal tt }
+        requires { length words.now ≡ pooled_place_size }
+        ensures desk_value { result.desk ≡ leaves refusal self (with_place_lem self place (pooled_place_in words.now)) }
+        ensures ack_value { ack_says result.ack ≡ answer refusal tt }
     {
         let ack = Ack::of(refusal);
         if refusal != 0 {
@@ -163,7 +163,7 @@ impl Desk {
     // Fills an empty place with the table of a rater of a book.
     pub fn load(self, place: u32, book: &[u8], rater: u32) -> Stored
         ensures desk_value { result.desk ≡ after self (change place (load book.now rater)) }
-        ensures ack_value { ackSays result.ack ≡ answer (number_of self (change place (load book.now rater))) tt }
+        ensures ack_value { ack_says result.ack ≡ answer (number_of self (change place (load book.now rater))) tt }
     {
         let mut words = self.mark(place);
         if !is_place(place) {
@@ -176,7 +176,7 @@ impl Desk {
     // Makes a loaded place as it is on a fresh desk.
     pub fn clear(self, place: u32) -> Stored
         ensures desk_value { result.desk ≡ after self (change place clear) }
-        ensures ack_value { ackSays result.ack ≡ answer (number_of self (change place clear)) tt }
+        ensures ack_value { ack_says result.ack ≡ answer (number_of self (change place clear)) tt }
     {
         let mut words = self.mark(place);
         if !is_place(place) {
@@ -190,7 +190,7 @@ impl Desk {
     fn book_event(self, place: u32, kind: Event, grade: u32) -> Stored
         requires { SoundDesk self }
         ensures desk_value { result.desk ≡ after self (change place (event kind grade)) }
-        ensures ack_value { ackSays result.ack ≡ answer (number_of self (change place (event kind grade))) tt }
+        ensures ack_value { ack_says result.ack ≡ answer (number_of self (change place (event kind grade))) tt }
     {
         let mut words = self.pooled_words(place);
         if !is_place(place) {
@@ -204,7 +204,7 @@ impl Desk {
     pub fn survivor_enters(self, place: u32, grade: u32) -> Stored
         requires { SoundDesk self }
         ensures desk_value { result.desk ≡ after self (change place (event Event.SurvivorEnters grade)) }
-        ensures ack_value { ackSays result.ack ≡ answer (number_of self (change place (event Event.SurvivorEnters grade))) tt }
+        ensures ack_value { ack_says result.ack ≡ answer (number_of self (change place (event Event.SurvivorEnters grade))) tt }
     {
         self.book_event(place, Event::SurvivorEnters, grade)
     }
@@ -213,7 +213,7 @@ impl Desk {
     pub fn survivor_leaves(self, place: u32, grade: u32) -> Stored
         requires { SoundDesk self }
         ensures desk_value { result.desk ≡ after self (change place (event Event.SurvivorLeaves grade)) }
-        ensures ack_value { ackSays result.ack ≡ answer (number_of self (change place (event Event.SurvivorLeaves grade))) tt }
+        ensures ack_value { ack_says result.ack ≡ answer (number_of self (change place (event Event.SurvivorLeaves grade))) tt }
     {
         self.book_event(place, Event::SurvivorLeaves, grade)
     }
@@ -222,7 +222,7 @@ impl Desk {
     pub fn survivor_defaults(self, place: u32, grade: u32) -> Stored
         requires { SoundDesk self }
         ensures desk_value { result.desk ≡ after self (change place (event Event.SurvivorDefaults grade)) }
-        ensures ack_value { ackSays result.ack ≡ answer (number_of self (change place (event Event.SurvivorDefaults grade))) tt }
+        ensures ack_value { ack_says result.ack ≡ answer (number_of self (change place (event Event.SurvivorDefaults grade))) tt }
     {
         self.book_event(place, Event::SurvivorDefaults, grade)
     }
@@ -231,7 +231,7 @@ impl Desk {
     pub fn defaulted_removed(self, place: u32, grade: u32) -> Stored
         requires { SoundDesk self }
         ensures desk_value { result.desk ≡ after self (change place (event Event.DefaultedRemoved grade)) }
-        ensures ack_value { ackSays result.ack ≡ answer (number_of self (change place (event Event.DefaultedRemoved grade))) tt }
+        ensures ack_value { ack_says result.ack ≡ answer (number_of self (change place (event Event.DefaultedRemoved grade))) tt }
     {
         self.book_event(place, Event::DefaultedRemoved, grade)
     }
@@ -240,8 +240,8 @@ impl Desk {
     pub fn pool(self, place: u32, out: &mut [u32]) -> Ack
         requires { SoundDesk self }
         ensures desk { self ≡ after self (fill place pool out.old) }
-        ensures out_after { out.new ≡ lentAfter self (fill place pool out.old) }
-        ensures result_value { ackSays result ≡ answer (number_of self (fill place pool out.old)) tt }
+        ensures out_after { out.new ≡ lent_after self (fill place pool out.old) }
+        ensures result_value { ack_says result ≡ answer (number_of self (fill place pool out.old)) tt }
     {
         if !is_place(place) {
             return Ack::Refused(NO_PLACE);
@@ -254,7 +254,7 @@ impl Desk {
     pub fn cheapest(self, place: u32, u: u32, v: u32) -> CheapestAnswer
         requires { SoundDesk self }
         ensures desk { self ≡ after self (ask place (cheapest u v)) }
-        ensures result_value { cheapestSays result ≡ answer (number_of self (ask place (cheapest u v))) (cheapestOf (table_at self place) u v) }
+        ensures result_value { cheapest_says result ≡ answer (number_of self (ask place (cheapest u v))) (cheapest_of (table_at self place) u v) }
     {
         if !is_place(place) {
             return CheapestAnswer::Refused(NO_PLACE);
@@ -268,7 +268,7 @@ impl Desk {
     pub fn compare(self) -> CompareAnswer
         requires { SoundDesk self }
         ensures desk { self ≡ after self compare }
-        ensures compares { Compares self (compareSays result) }
+        ensures compares { Compares self (compare_says result) }
     {
         let first = self.pooled_words(1);
         let second = self.pooled_words(2);
@@ -279,8 +279,8 @@ impl Desk {
     // so the contract limits them: "The pairs carried have prices up to 2,500,000,000".
     pub fn compare_shares(self) -> CompareAnswer
         requires { SoundDesk self }
-        ensures desk { self ≡ after self compareShares }
-        ensures compares_by_shares { ComparesByShares self (compareSays result) }
+        ensures desk { self ≡ after self compare_on_shares }
+        ensures compares_by_shares { ComparesByShares self (compare_says result) }
     {
         let first = self.pooled_words(1);
         let second = self.pooled_words(2);
@@ -291,7 +291,7 @@ impl Desk {
     pub fn measures(self, place: u32) -> MeasuresAnswer
         requires { SoundDesk self }
         ensures desk { self ≡ after self (ask place measures) }
-        ensures result_value { measuresSays result ≡ answer (number_of self (ask place measures)) (measuresOf (table_at self place)) }
+        ensures result_value { measures_says result ≡ answer (number_of self (ask place measures)) (measures_of (table_at self place)) }
     {
         if !is_place(place) {
             return MeasuresAnswer::Refused(NO_PLACE);
@@ -304,7 +304,7 @@ impl Desk {
     pub fn brier(self, place: u32) -> BrierAnswer
         requires { SoundDesk self }
         ensures desk { self ≡ after self (ask place brier) }
-        ensures result_value { brierSays result ≡ answer (number_of self (ask place brier)) (brierOf (table_at self place)) }
+        ensures result_value { brier_says result ≡ answer (number_of self (ask place brier)) (brier_of (table_at self place)) }
     {
         if !is_place(place) {
             return BrierAnswer::Refused(NO_PLACE);
@@ -318,7 +318,7 @@ impl Desk {
     pub fn spread(self, place: u32) -> SpreadAnswer
         requires { SoundDesk self }
         ensures desk { self ≡ after self (ask place spread) }
-        ensures spreads { Spreads self place (spreadSays result) }
+        ensures spreads { Spreads self place (spread_says result) }
     {
         if !is_place(place) {
             return SpreadAnswer::Refused(NO_PLACE);
@@ -331,8 +331,8 @@ impl Desk {
     pub fn write(self, out: &mut [u8]) -> Written
         requires { SoundDesk self }
         ensures desk { self ≡ after self (write out.old) }
-        ensures out_after { out.new ≡ lentAfter self (write out.old) }
-        ensures returns { Returns self (write out.old) (writtenSays result) }
+        ensures out_after { out.new ≡ lent_after self (write out.old) }
+        ensures returns { Returns self (write out.old) (written_says result) }
     {
         let first = self.words(1);
         let second = self.words(2);
@@ -343,9 +343,9 @@ impl Desk {
 // The numbers of the raters of a book for which no other one is better, in book order, into a lent buffer whose further numbers are kept. No desk
 // plays a part: what is said here of a fresh one holds of every desk.
 pub fn shortlist(book: &[u8], out: &mut [u32]) -> Shortlisted
-    ensures desk { freshDesk ≡ after freshDesk (shortlist book.now out.old) }
-    ensures out_after { out.new ≡ lentAfter freshDesk (shortlist book.now out.old) }
-    ensures returns { Returns freshDesk (shortlist book.now out.old) (shortlistedSays result) }
+    ensures desk { fresh_desk ≡ after fresh_desk (shortlist book.now out.old) }
+    ensures out_after { out.new ≡ lent_after fresh_desk (shortlist book.now out.old) }
+    ensures returns { Returns fresh_desk (shortlist book.now out.old) (shortlisted_says result) }
 {
     shortlist::shortlist(book, out)
 }

@@ -4,44 +4,44 @@ use mathlib.Core.Path.{◌≡◌, sym, ap, ◌∙◌}
 use mathlib.Core.List.{List}
 use Rattle.table.specs.declared.Place.{Place}
 use Rattle.table.specs.Words.{place_in}
-use Rattle.book.proofs.Checks.{first-none}
+use Rattle.book.proofs.Checks.{first_none}
 use Rattle.pooled_place.specs.Words.{IsPooledPlace}
-use Rattle.pooled_place.proofs.Words.{long-pooled, holds-no-table}
+use Rattle.pooled_place.proofs.Words.{long_pooled, holds_no_table}
 use Rattle.calls.specs.Answers.{leaves}
-use Rattle.calls.specs.Calls.{Change, changedTo, changeFault}
+use Rattle.calls.specs.Calls.{Change, changed_to, change_fault}
 use Rattle.calls.specs.Private.{Fillable}
-use Rattle.desk.specs.Desk.{table_at, placeAt, withPlace}
-use Rattle.desk.specs.Calls.{placeFault, change, number_of, after}
-use Rattle.desk.proofs.Soundness.{changed-sound, table-sound}
-use Rattle.desk.proofs.Asked.{words-pooled, pooled-is}
-use Rattle.desk_c.specs.Image.{image_of, wordsFrom, deskIn, IsImage}
+use Rattle.desk.specs.Desk.{table_at, place_at, with_place_lem}
+use Rattle.desk.specs.Calls.{place_fault, change, number_of, after}
+use Rattle.desk.proofs.Soundness.{changed_sound, table_sound}
+use Rattle.desk.proofs.Asked.{words_pooled, pooled_is}
+use Rattle.desk_c.specs.Image.{image_of, words_from, desk_in, IsImage}
 use Rattle.desk_c.specs.Private.{start_of, with_words}
-use Rattle.desk_c.proofs.Images.{words-of, image-put}
+use Rattle.desk_c.proofs.Images.{words-of, image_put}
 
-pub place-in : {w : List ℕ} (i : IsImage w) (k at : ℕ) → at ≡ start_of k → IsPooledPlace (wordsFrom w at)
-place-in {w} i k at start = words-pooled (deskIn w) k i.sound (words-of i k at start)
+pub place-in : {w : List ℕ} (i : IsImage w) (k at : ℕ) → at ≡ start_of k → IsPooledPlace (words_from w at)
+place-in {w} i k at start = words_pooled (desk_in w) k i.sound (words-of i k at start)
 
 -- Load finds what it requires.
-pub fillable : {w : List ℕ} (i : IsImage w) (k at : ℕ) → at ≡ start_of k → Fillable (wordsFrom w at)
-fillable i k at start = let p = place-in i k at start in record { long = long-pooled p; unused = holds-no-table p }
+pub fillable : {w : List ℕ} (i : IsImage w) (k at : ℕ) → at ≡ start_of k → Fillable (words_from w at)
+fillable i k at start = let p = place-in i k at start in record { long = long_pooled p; unused = holds_no_table p }
 
 -- n is the fault of the change c.
-module _ {w : List ℕ} (i : IsImage w) (k at : ℕ) (start : at ≡ start_of k) (here : placeFault k ≡ 0) (c : Change) where
-  pub place_same : place_in (wordsFrom w at) ≡ placeAt (deskIn w) k
-  place_same = pooled-is (deskIn w) k i.sound (words-of i k at start)
+module _ {w : List ℕ} (i : IsImage w) (k at : ℕ) (start : at ≡ start_of k) (here : place_fault k ≡ 0) (c : Change) where
+  pub place_same : place_in (words_from w at) ≡ place_at (desk_in w) k
+  place_same = pooled_is (desk_in w) k i.sound (words-of i k at start)
 
-  same : changeFault (place_in (wordsFrom w at)) c ≡ changeFault (placeAt (deskIn w) k) c
-  same = ap (λ (p : Place). changeFault p c) place_same
+  same : change_fault (place_in (words_from w at)) c ≡ change_fault (place_at (desk_in w) k) c
+  same = ap (λ (p : Place). change_fault p c) place_same
 
-  pub image-number : {n : ℕ} → n ≡ changeFault (place_in (wordsFrom w at)) c → n ≡ number_of (deskIn w) (change k c)
-  image-number e = e ∙ same ∙ sym (first-none (placeFault k) _ here)
+  pub image_number : {n : ℕ} → n ≡ change_fault (place_in (words_from w at)) c → n ≡ number_of (desk_in w) (change k c)
+  image_number e = e ∙ same ∙ sym (first_none (place_fault k) _ here)
 
-  put : (n : ℕ) → n ≡ changeFault (place_in (wordsFrom w at)) c
-      → leaves n w (with_words w at (changedTo (table_at (deskIn w) k) c)) ≡ image_of (leaves n (deskIn w) (withPlace (deskIn w) k (changedTo (table_at (deskIn w) k) c)))
-  put zero e = image-put i k at _ start (changed-sound (placeAt (deskIn w) k) c (table-sound (deskIn w) i.sound k) (sym same ∙ sym e))
+  put : (n : ℕ) → n ≡ change_fault (place_in (words_from w at)) c
+      → leaves n w (with_words w at (changed_to (table_at (desk_in w) k) c)) ≡ image_of (leaves n (desk_in w) (with_place_lem (desk_in w) k (changed_to (table_at (desk_in w) k) c)))
+  put zero e = image_put i k at _ start (changed_sound (place_at (desk_in w) k) c (table_sound (desk_in w) i.sound k) (sym same ∙ sym e))
   put (suc n) e = i.exact
 
-  pub image-changed : {n : ℕ} {new : List ℕ} → n ≡ changeFault (place_in (wordsFrom w at)) c → new ≡ leaves n w (with_words w at (changedTo (table_at (deskIn w) k) c))
-      → new ≡ image_of (after (deskIn w) (change k c))
-  image-changed {n} e f =
-      f ∙ put n e ∙ ap (λ (m : ℕ). image_of (leaves m (deskIn w) (withPlace (deskIn w) k (changedTo (table_at (deskIn w) k) c)))) (image-number e)
+  pub image_changed : {n : ℕ} {new : List ℕ} → n ≡ change_fault (place_in (words_from w at)) c → new ≡ leaves n w (with_words w at (changed_to (table_at (desk_in w) k) c))
+      → new ≡ image_of (after (desk_in w) (change k c))
+  image_changed {n} e f =
+      f ∙ put n e ∙ ap (λ (m : ℕ). image_of (leaves m (desk_in w) (with_place_lem (desk_in w) k (changed_to (table_at (desk_in w) k) c)))) (image_number e)

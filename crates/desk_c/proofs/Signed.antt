@@ -8,15 +8,15 @@ use mir.Syntax.{w64}
 use mir.Val.{SFits, to_z, of_z}
 use mir.ValLaws.{to_z-of_z}
 use Rattle.table.specs.Table.{Table, Sound}
-use Rattle.table.proofs.Arithmetic.{counts-le}
-use Rattle.table.proofs.Signed.{count-back}
-use Rattle.table.proofs.Suffix.{sound-small, few-counts}
+use Rattle.table.proofs.Arithmetic.{counts_le}
+use Rattle.table.proofs.Signed.{count_back}
+use Rattle.table.proofs.Suffix.{sound_small, few_counts}
 use Rattle.cutoff.specs.declared.CheapestCutoff.{CheapestCutoff}
-use Rattle.cutoff.specs.Cutoff.{cheapestOf}
-use Rattle.cutoff.proofs.Cost.{cutoff-costs, cost-le-all}
+use Rattle.cutoff.specs.Cutoff.{cheapest_of}
+use Rattle.cutoff.proofs.Cost.{cutoff_costs, cost_le_all}
 use Rattle.measures.specs.declared.Measures.{Measures}
 use Rattle.measures.proofs.Sizes.{FewPairs}
-use Rattle.desk_c.specs.Numbers.{cutoffNumbers, measuresNumbers}
+use Rattle.desk_c.specs.Numbers.{cutoff_numbers, measures_numbers}
 
 -- A cheapest cutoff costs no more than turning every survivor away.
 
@@ -24,16 +24,16 @@ pub record FewCosts (c : CheapestCutoff) : Type 0 where
   pub cutoff : c.cutoff ≤ 40
   pub cost : c.cost ≤ 1_000_000_000_000
 
-pub few-costs : {t : Table} (u v : ℕ) → Sound t → v ≤ 1_000_000 → FewCosts (cheapestOf t u v)
-few-costs {t} u v s priced =
-    let small = sound-small s in
+pub few_costs : {t : Table} (u v : ℕ) → Sound t → v ≤ 1_000_000 → FewCosts (cheapest_of t u v)
+few_costs {t} u v s priced =
+    let small = sound_small s in
     record {
-      cutoff = omega (arith, (cutoff-costs t u v).0, small.grades);
-      cost = omega (arith, cost-le-all t u v, counts-le priced (few-counts small).1);
+      cutoff = omega (arith, (cutoff_costs t u v).0, small.grades);
+      cost = omega (arith, cost_le_all t u v, counts_le priced (few_counts small).1);
     }
 
-pub stores-cutoff : (c : CheapestCutoff) → FewCosts c → to_z w64 c.cutoff ∷ to_z w64 c.cost ∷ [] ≡ cutoffNumbers c
-stores-cutoff c f = rw (count-back c.cutoff (omega (arith, f.cutoff)), count-back c.cost (omega (arith, f.cost))) refl
+pub stores_cutoff : (c : CheapestCutoff) → FewCosts c → to_z w64 c.cutoff ∷ to_z w64 c.cost ∷ [] ≡ cutoff_numbers c
+stores_cutoff c f = rw (count_back c.cutoff (omega (arith, f.cutoff)), count_back c.cost (omega (arith, f.cost))) refl
 
 -- The numbers of a table's measures, each as 64 bits read as a signed number.
 abbrev pub stores : Measures → List ℤ
@@ -56,19 +56,19 @@ pub record Signed (m : Measures) : Type 0 where
   pub pietra : SFits w64 m.pietra.numerator
   pub few : FewPairs m
 
-pub stores-numbers : (m : Measures) → Signed m → stores m ≡ measuresNumbers m
-stores-numbers m s =
+pub stores_numbers : (m : Measures) → Signed m → stores m ≡ measures_numbers m
+stores_numbers m s =
     let f = s.few in
     rw (
-      count-back m.defaults (omega (arith, f.counts)),
-      count-back m.survivors.0 (omega (arith, f.counts)),
+      count_back m.defaults (omega (arith, f.counts)),
+      count_back m.survivors.0 (omega (arith, f.counts)),
       to_z-of_z w64 m.gini.numerator s.gini,
-      count-back m.gini.denominator (omega (arith, f.gini)),
-      count-back m.roc.numerator (omega (arith, f.roc)),
-      count-back m.roc.denominator (omega (arith, f.roc)),
-      count-back m.cap.numerator (omega (arith, f.cap)),
-      count-back m.cap.denominator (omega (arith, f.cap)),
+      count_back m.gini.denominator (omega (arith, f.gini)),
+      count_back m.roc.numerator (omega (arith, f.roc)),
+      count_back m.roc.denominator (omega (arith, f.roc)),
+      count_back m.cap.numerator (omega (arith, f.cap)),
+      count_back m.cap.denominator (omega (arith, f.cap)),
       to_z-of_z w64 m.pietra.numerator s.pietra,
-      count-back m.pietra.denominator (omega (arith, f.pietra)),
-      count-back m.cutoff (omega (arith, f.cutoff)),
+      count_back m.pietra.denominator (omega (arith, f.pietra)),
+      count_back m.cutoff (omega (arith, f.cutoff)),
     ) refl

@@ -8,7 +8,7 @@ use Rattle.shares.specs.Verdict.{IsVerdictByShares}
 use Rattle.measures.specs.declared.Measures.{Measures}
 use Rattle.measures.specs.declared.UnsignedFraction.{UnsignedFraction}
 use Rattle.spread.specs.declared.Spread.{Spread}
-use Rattle.desk_c.specs.Image.{tableOn}
+use Rattle.desk_c.specs.Image.{table_on}
 
 -- What a call with the first fault n may leave in its buffer, where the documents leave the values of the answer freer: what was there,
 -- or the numbers of an answer that is P.
@@ -16,26 +16,26 @@ abbrev pub Left : {A B : Type 0} → ℕ → (A → Type 0) → (A → B) → B 
 Left {A = A} zero P numbers old new = (x : A) × P x × (new ≡ numbers x)
 Left (suc n) P numbers old new = new ≡ old
 
-abbrev pub cutoffNumbers : CheapestCutoff → List ℤ
-cutoffNumbers c = pos c.cutoff ∷ pos c.cost ∷ []
+abbrev pub cutoff_numbers : CheapestCutoff → List ℤ
+cutoff_numbers c = pos c.cutoff ∷ pos c.cost ∷ []
 
 -- what compare may answer of the desk in an image: a verdict on the tables in its two places
 abbrev pub VerdictOn : List ℕ → Verdict → Type 0
-VerdictOn w v = IsVerdict (tableOn w 1) (tableOn w 2) v
+VerdictOn w v = IsVerdict (table_on w 1) (table_on w 2) v
 
 -- and what the comparison on shares may answer
 abbrev pub VerdictOnShares : List ℕ → Verdict → Type 0
-VerdictOnShares w v = IsVerdictByShares (tableOn w 1) (tableOn w 2) v
+VerdictOnShares w v = IsVerdictByShares (table_on w 1) (table_on w 2) v
 
 -- the kind; the pair at which the first costs more; the pair at which the second costs more. A pair that is not carried is 0, 0.
-abbrev pub verdictNumbers : Verdict → List ℕ
-verdictNumbers Equal = 0 ∷ 0 ∷ 0 ∷ 0 ∷ 0 ∷ []
-verdictNumbers (First p) = 1 ∷ 0 ∷ 0 ∷ p.u ∷ p.v ∷ []
-verdictNumbers (Second p) = 2 ∷ p.u ∷ p.v ∷ 0 ∷ 0 ∷ []
-verdictNumbers (Crossing p q) = 3 ∷ p.u ∷ p.v ∷ q.u ∷ q.v ∷ []
+abbrev pub verdict_numbers : Verdict → List ℕ
+verdict_numbers Equal = 0 ∷ 0 ∷ 0 ∷ 0 ∷ 0 ∷ []
+verdict_numbers (First p) = 1 ∷ 0 ∷ 0 ∷ p.u ∷ p.v ∷ []
+verdict_numbers (Second p) = 2 ∷ p.u ∷ p.v ∷ 0 ∷ 0 ∷ []
+verdict_numbers (Crossing p q) = 3 ∷ p.u ∷ p.v ∷ q.u ∷ q.v ∷ []
 
-abbrev pub measuresNumbers : Measures → List ℤ
-measuresNumbers m =
+abbrev pub measures_numbers : Measures → List ℤ
+measures_numbers m =
     pos m.defaults
     ∷ pos m.survivors.0
     ∷ m.gini.numerator
@@ -49,8 +49,8 @@ measuresNumbers m =
     ∷ pos m.cutoff
     ∷ []
 
-abbrev pub fractionNumbers : UnsignedFraction → List ℤ
-fractionNumbers f = pos f.numerator ∷ pos f.denominator ∷ []
+abbrev pub fraction_numbers : UnsignedFraction → List ℤ
+fraction_numbers f = pos f.numerator ∷ pos f.denominator ∷ []
 
-abbrev pub spreadNumbers : Spread → List Float
-spreadNumbers s = s.total ∷ s.residual ∷ []
+abbrev pub spread_numbers : Spread → List Float
+spread_numbers s = s.total ∷ s.residual ∷ []

@@ -1,18 +1,18 @@
 // The desk for callers in C and other languages: every entry point over the image of a desk in the caller's memory, of which a part is lent
 // to the calls on words. A function returns 0 or the refusal number; its answer goes to a lent buffer, which a refusal leaves as it was.
 ghost use Rattle.std.specs.Prelude.{◌≡◌};
-ghost use Rattle.cutoff.specs.Cutoff.{cheapestOf};
-ghost use Rattle.measures.specs.Measures.{measuresOf};
-ghost use Rattle.measures.specs.Brier.{brierOf};
+ghost use Rattle.cutoff.specs.Cutoff.{cheapest_of};
+ghost use Rattle.measures.specs.Measures.{measures_of};
+ghost use Rattle.measures.specs.Brier.{brier_of};
 ghost use Rattle.spread.specs.Spread.{IsSpread};
-ghost use Rattle.calls.specs.Answers.{leaves, compareSays};
+ghost use Rattle.calls.specs.Answers.{leaves, compare_says};
 ghost use Rattle.calls.specs.Calls.{cheapest, measures, brier, spread, pool, load, clear, event};
-ghost use Rattle.desk.specs.Desk.{freshDesk};
-ghost use Rattle.desk.specs.Calls.{ask, compare, compareShares, fill, write, shortlist, change};
-ghost use Rattle.desk.specs.Calls.{number_of, after, lentAfter, lentSize};
-ghost use Rattle.desk_c.specs.Image.{image_of, deskIn, tableOn, IsImage};
-ghost use Rattle.desk_c.specs.Numbers.{Left, cutoffNumbers, VerdictOn, VerdictOnShares, verdictNumbers, measuresNumbers, fractionNumbers, spreadNumbers};
-ghost use Rattle.desk_c.specs.Private.{numberSaid, verdictLeft};
+ghost use Rattle.desk.specs.Desk.{fresh_desk};
+ghost use Rattle.desk.specs.Calls.{ask, compare, compare_on_shares, fill, write, shortlist, change};
+ghost use Rattle.desk.specs.Calls.{number_of, after, lent_after, lent_size};
+ghost use Rattle.desk_c.specs.Image.{image_of, desk_in, table_on, IsImage};
+ghost use Rattle.desk_c.specs.Numbers.{Left, cutoff_numbers, VerdictOn, VerdictOnShares, verdict_numbers, measures_numbers, fraction_numbers, spread_numbers};
+ghost use Rattle.desk_c.specs.Private.{number_said, verdict_left};
 ghost use Rattle.desk_c.specs.Version.{version};
 ghost use Rattle.desk_c.specs.Claims.{Claims};
 
@@ -50,7 +50,7 @@ pub extern "C" fn desk_library_is_version_10() -> u32
 #[unsafe(no_mangle)]
 pub extern "C" fn desk_empty(desk: &mut [u32; DESK]) -> u32
     ensures value { result ≡ 0 }
-    ensures desk_after { desk.new ≡ image_of freshDesk }
+    ensures desk_after { desk.new ≡ image_of fresh_desk }
 {
     *desk = [0; DESK];
     0
@@ -60,8 +60,8 @@ pub extern "C" fn desk_empty(desk: &mut [u32; DESK]) -> u32
 #[unsafe(no_mangle)]
 pub extern "C" fn desk_load(desk: &mut [u32; DESK], place: u32, book: &[u8], rater: u32) -> u32
     requires { IsImage desk.old }
-    ensures value { result ≡ number_of (deskIn desk.old) (change place (load book.now rater)) }
-    ensures desk_after { desk.new ≡ image_of (after (deskIn desk.old) (change place (load book.now rater))) }
+    ensures value { result ≡ number_of (desk_in desk.old) (change place (load book.now rater)) }
+    ensures desk_after { desk.new ≡ image_of (after (desk_in desk.old) (change place (load book.now rater))) }
 {
     if !is_place(place) {
         return NO_PLACE;
@@ -73,8 +73,8 @@ pub extern "C" fn desk_load(desk: &mut [u32; DESK], place: u32, book: &[u8], rat
 #[unsafe(no_mangle)]
 pub extern "C" fn desk_clear(desk: &mut [u32; DESK], place: u32) -> u32
     requires { IsImage desk.old }
-    ensures value { result ≡ number_of (deskIn desk.old) (change place clear) }
-    ensures desk_after { desk.new ≡ image_of (after (deskIn desk.old) (change place clear)) }
+    ensures value { result ≡ number_of (desk_in desk.old) (change place clear) }
+    ensures desk_after { desk.new ≡ image_of (after (desk_in desk.old) (change place clear)) }
 {
     if !is_place(place) {
         return NO_PLACE;
@@ -85,8 +85,8 @@ pub extern "C" fn desk_clear(desk: &mut [u32; DESK], place: u32) -> u32
 // Books an event at a grade of the table in a place.
 fn book_event(desk: &mut [u32; DESK], place: u32, kind: Event, grade: u32) -> u32
     requires { IsImage desk.old }
-    ensures value { result ≡ number_of (deskIn desk.old) (change place (event kind grade)) }
-    ensures desk_after { desk.new ≡ image_of (after (deskIn desk.old) (change place (event kind grade))) }
+    ensures value { result ≡ number_of (desk_in desk.old) (change place (event kind grade)) }
+    ensures desk_after { desk.new ≡ image_of (after (desk_in desk.old) (change place (event kind grade))) }
 {
     if !is_place(place) {
         return NO_PLACE;
@@ -98,8 +98,8 @@ fn book_event(desk: &mut [u32; DESK], place: u32, kind: Event, grade: u32) -> u3
 #[unsafe(no_mangle)]
 pub extern "C" fn desk_survivor_enters(desk: &mut [u32; DESK], place: u32, grade: u32) -> u32
     requires { IsImage desk.old }
-    ensures value { result ≡ number_of (deskIn desk.old) (change place (event Event.SurvivorEnters grade)) }
-    ensures desk_after { desk.new ≡ image_of (after (deskIn desk.old) (change place (event Event.SurvivorEnters grade))) }
+    ensures value { result ≡ number_of (desk_in desk.old) (change place (event Event.SurvivorEnters grade)) }
+    ensures desk_after { desk.new ≡ image_of (after (desk_in desk.old) (change place (event Event.SurvivorEnters grade))) }
 {
     book_event(desk, place, Event::SurvivorEnters, grade)
 }
@@ -108,8 +108,8 @@ pub extern "C" fn desk_survivor_enters(desk: &mut [u32; DESK], place: u32, grade
 #[unsafe(no_mangle)]
 pub extern "C" fn desk_survivor_leaves(desk: &mut [u32; DESK], place: u32, grade: u32) -> u32
     requires { IsImage desk.old }
-    ensures value { result ≡ number_of (deskIn desk.old) (change place (event Event.SurvivorLeaves grade)) }
-    ensures desk_after { desk.new ≡ image_of (after (deskIn desk.old) (change place (event Event.SurvivorLeaves grade))) }
+    ensures value { result ≡ number_of (desk_in desk.old) (change place (event Event.SurvivorLeaves grade)) }
+    ensures desk_after { desk.new ≡ image_of (after (desk_in desk.old) (change place (event Event.SurvivorLeaves grade))) }
 {
     book_event(desk, place, Event::SurvivorLeaves, grade)
 }
@@ -118,8 +118,8 @@ pub extern "C" fn desk_survivor_leaves(desk: &mut [u32; DESK], place: u32, grade
 #[unsafe(no_mangle)]
 pub extern "C" fn desk_survivor_defaults(desk: &mut [u32; DESK], place: u32, grade: u32) -> u32
     requires { IsImage desk.old }
-    ensures value { result ≡ number_of (deskIn desk.old) (change place (event Event.SurvivorDefaults grade)) }
-    ensures desk_after { desk.new ≡ image_of (after (deskIn desk.old) (change place (event Event.SurvivorDefaults grade))) }
+    ensures value { result ≡ number_of (desk_in desk.old) (change place (event Event.SurvivorDefaults grade)) }
+    ensures desk_after { desk.new ≡ image_of (after (desk_in desk.old) (change place (event Event.SurvivorDefaults grade))) }
 {
     book_event(desk, place, Event::SurvivorDefaults, grade)
 }
@@ -128,8 +128,8 @@ pub extern "C" fn desk_survivor_defaults(desk: &mut [u32; DESK], place: u32, gra
 #[unsafe(no_mangle)]
 pub extern "C" fn desk_defaulted_removed(desk: &mut [u32; DESK], place: u32, grade: u32) -> u32
     requires { IsImage desk.old }
-    ensures value { result ≡ number_of (deskIn desk.old) (change place (event Event.DefaultedRemoved grade)) }
-    ensures desk_after { desk.new ≡ image_of (after (deskIn desk.old) (change place (event Event.DefaultedRemoved grade))) }
+    ensures value { result ≡ number_of (desk_in desk.old) (change place (event Event.DefaultedRemoved grade)) }
+    ensures desk_after { desk.new ≡ image_of (after (desk_in desk.old) (change place (event Event.DefaultedRemoved grade))) }
 {
     book_event(desk, place, Event::DefaultedRemoved, grade)
 }
@@ -138,9 +138,9 @@ pub extern "C" fn desk_defaulted_removed(desk: &mut [u32; DESK], place: u32, gra
 #[unsafe(no_mangle)]
 pub extern "C" fn desk_pool(desk: &[u32; DESK], place: u32, numbers: &mut [u32]) -> u32
     requires { IsImage desk.now }
-    ensures desk { desk.now ≡ image_of (after (deskIn desk.now) (fill place pool numbers.old)) }
-    ensures value { result ≡ number_of (deskIn desk.now) (fill place pool numbers.old) }
-    ensures numbers_after { numbers.new ≡ lentAfter (deskIn desk.now) (fill place pool numbers.old) }
+    ensures desk { desk.now ≡ image_of (after (desk_in desk.now) (fill place pool numbers.old)) }
+    ensures value { result ≡ number_of (desk_in desk.now) (fill place pool numbers.old) }
+    ensures numbers_after { numbers.new ≡ lent_after (desk_in desk.now) (fill place pool numbers.old) }
 {
     if !is_place(place) {
         return NO_PLACE;
@@ -158,9 +158,9 @@ pub extern "C" fn desk_cheapest(
     answer: &mut [i64; 2],
 ) -> u32
     requires { IsImage desk.now }
-    ensures desk { desk.now ≡ image_of (after (deskIn desk.now) (ask place (cheapest u v))) }
-    ensures value { result ≡ number_of (deskIn desk.now) (ask place (cheapest u v)) }
-    ensures answer_after { answer.new ≡ leaves result answer.old (cutoffNumbers (cheapestOf (tableOn desk.now place) u v)) }
+    ensures desk { desk.now ≡ image_of (after (desk_in desk.now) (ask place (cheapest u v))) }
+    ensures value { result ≡ number_of (desk_in desk.now) (ask place (cheapest u v)) }
+    ensures answer_after { answer.new ≡ leaves result answer.old (cutoff_numbers (cheapest_of (table_on desk.now place) u v)) }
 {
     if !is_place(place) {
         return NO_PLACE;
@@ -177,8 +177,8 @@ pub extern "C" fn desk_cheapest(
 
 // What a comparison returns, and leaves in the buffer of its answer.
 fn put_verdict(compared: CompareAnswer, answer: &mut [u32; 5]) -> u32
-    ensures value { result ≡ numberSaid (compareSays compared) }
-    ensures answer_after { answer.new ≡ verdictLeft (compareSays compared) answer.old }
+    ensures value { result ≡ number_said (compare_says compared) }
+    ensures answer_after { answer.new ≡ verdict_left (compare_says compared) answer.old }
 {
     match compared {
         CompareAnswer::Verdict(v) => {
@@ -193,9 +193,9 @@ fn put_verdict(compared: CompareAnswer, answer: &mut [u32; 5]) -> u32
 #[unsafe(no_mangle)]
 pub extern "C" fn desk_compare(desk: &[u32; DESK], answer: &mut [u32; 5]) -> u32
     requires { IsImage desk.now }
-    ensures desk { desk.now ≡ image_of (after (deskIn desk.now) compare) }
-    ensures value { result ≡ number_of (deskIn desk.now) compare }
-    ensures left { Left result (VerdictOn desk.now) verdictNumbers answer.old answer.new }
+    ensures desk { desk.now ≡ image_of (after (desk_in desk.now) compare) }
+    ensures value { result ≡ number_of (desk_in desk.now) compare }
+    ensures left { Left result (VerdictOn desk.now) verdict_numbers answer.old answer.new }
 {
     put_verdict(
         calls::compare(words_at(desk, 0), words_at(desk, POOLED_PLACE)),
@@ -208,9 +208,9 @@ pub extern "C" fn desk_compare(desk: &[u32; DESK], answer: &mut [u32; 5]) -> u32
 #[unsafe(no_mangle)]
 pub extern "C" fn desk_compare_shares(desk: &[u32; DESK], answer: &mut [u32; 5]) -> u32
     requires { IsImage desk.now }
-    ensures desk { desk.now ≡ image_of (after (deskIn desk.now) compareShares) }
-    ensures value { result ≡ number_of (deskIn desk.now) compareShares }
-    ensures left { Left result (VerdictOnShares desk.now) verdictNumbers answer.old answer.new }
+    ensures desk { desk.now ≡ image_of (after (desk_in desk.now) compare_on_shares) }
+    ensures value { result ≡ number_of (desk_in desk.now) compare_on_shares }
+    ensures left { Left result (VerdictOnShares desk.now) verdict_numbers answer.old answer.new }
 {
     put_verdict(
         calls::compare_shares(words_at(desk, 0), words_at(desk, POOLED_PLACE)),
@@ -220,7 +220,7 @@ pub extern "C" fn desk_compare_shares(desk: &[u32; DESK], answer: &mut [u32; 5])
 
 // The numbers of a verdict.
 fn numbers_of(v: Verdict) -> [u32; 5]
-    ensures { result ≡ verdictNumbers v }
+    ensures { result ≡ verdict_numbers v }
 {
     match v {
         Verdict::Equal => [0, 0, 0, 0, 0],
@@ -234,9 +234,9 @@ fn numbers_of(v: Verdict) -> [u32; 5]
 #[unsafe(no_mangle)]
 pub extern "C" fn desk_measures(desk: &[u32; DESK], place: u32, answer: &mut [i64; 11]) -> u32
     requires { IsImage desk.now }
-    ensures desk { desk.now ≡ image_of (after (deskIn desk.now) (ask place measures)) }
-    ensures value { result ≡ number_of (deskIn desk.now) (ask place measures) }
-    ensures answer_after { answer.new ≡ leaves result answer.old (measuresNumbers (measuresOf (tableOn desk.now place))) }
+    ensures desk { desk.now ≡ image_of (after (desk_in desk.now) (ask place measures)) }
+    ensures value { result ≡ number_of (desk_in desk.now) (ask place measures) }
+    ensures answer_after { answer.new ≡ leaves result answer.old (measures_numbers (measures_of (table_on desk.now place))) }
 {
     if !is_place(place) {
         return NO_PLACE;
@@ -267,9 +267,9 @@ pub extern "C" fn desk_measures(desk: &[u32; DESK], place: u32, answer: &mut [i6
 #[unsafe(no_mangle)]
 pub extern "C" fn desk_brier(desk: &[u32; DESK], place: u32, answer: &mut [i64; 2]) -> u32
     requires { IsImage desk.now }
-    ensures desk { desk.now ≡ image_of (after (deskIn desk.now) (ask place brier)) }
-    ensures value { result ≡ number_of (deskIn desk.now) (ask place brier) }
-    ensures answer_after { answer.new ≡ leaves result answer.old (fractionNumbers (brierOf (tableOn desk.now place))) }
+    ensures desk { desk.now ≡ image_of (after (desk_in desk.now) (ask place brier)) }
+    ensures value { result ≡ number_of (desk_in desk.now) (ask place brier) }
+    ensures answer_after { answer.new ≡ leaves result answer.old (fraction_numbers (brier_of (table_on desk.now place))) }
 {
     if !is_place(place) {
         return NO_PLACE;
@@ -288,9 +288,9 @@ pub extern "C" fn desk_brier(desk: &[u32; DESK], place: u32, answer: &mut [i64; 
 #[unsafe(no_mangle)]
 pub extern "C" fn desk_spread(desk: &[u32; DESK], place: u32, answer: &mut [f64; 2]) -> u32
     requires { IsImage desk.now }
-    ensures desk { desk.now ≡ image_of (after (deskIn desk.now) (ask place spread)) }
-    ensures value { result ≡ number_of (deskIn desk.now) (ask place spread) }
-    ensures left { Left result (IsSpread (tableOn desk.now place)) spreadNumbers answer.old answer.new }
+    ensures desk { desk.now ≡ image_of (after (desk_in desk.now) (ask place spread)) }
+    ensures value { result ≡ number_of (desk_in desk.now) (ask place spread) }
+    ensures left { Left result (IsSpread (table_on desk.now place)) spread_numbers answer.old answer.new }
 {
     if !is_place(place) {
         return NO_PLACE;
@@ -309,10 +309,10 @@ pub extern "C" fn desk_spread(desk: &[u32; DESK], place: u32, answer: &mut [f64;
 #[unsafe(no_mangle)]
 pub extern "C" fn desk_write(desk: &[u32; DESK], book: &mut [u8], written: &mut usize) -> u32
     requires { IsImage desk.now }
-    ensures desk { desk.now ≡ image_of (after (deskIn desk.now) (write book.old)) }
-    ensures value { result ≡ number_of (deskIn desk.now) (write book.old) }
-    ensures book_after { book.new ≡ lentAfter (deskIn desk.now) (write book.old) }
-    ensures written_after { let d = deskIn desk.now in written.new ≡ leaves result written.old (lentSize d (write book.old)) }
+    ensures desk { desk.now ≡ image_of (after (desk_in desk.now) (write book.old)) }
+    ensures value { result ≡ number_of (desk_in desk.now) (write book.old) }
+    ensures book_after { book.new ≡ lent_after (desk_in desk.now) (write book.old) }
+    ensures written_after { let d = desk_in desk.now in written.new ≡ leaves result written.old (lent_size d (write book.old)) }
 {
     let answered = book::write(counts_at(desk, 0), counts_at(desk, POOLED_PLACE), book);
     match answered {
@@ -328,10 +328,10 @@ pub extern "C" fn desk_write(desk: &[u32; DESK], book: &mut [u8], written: &mut 
 // many there are. No desk plays a part: what is said here of a fresh one holds of every desk.
 #[unsafe(no_mangle)]
 pub extern "C" fn desk_shortlist(book: &[u8], numbers: &mut [u32], count: &mut usize) -> u32
-    ensures desk { freshDesk ≡ after freshDesk (shortlist book.now numbers.old) }
-    ensures value { result ≡ number_of freshDesk (shortlist book.now numbers.old) }
-    ensures numbers_after { numbers.new ≡ lentAfter freshDesk (shortlist book.now numbers.old) }
-    ensures count_after { let c = shortlist book.now numbers.old in count.new ≡ leaves result count.old (lentSize freshDesk c) }
+    ensures desk { fresh_desk ≡ after fresh_desk (shortlist book.now numbers.old) }
+    ensures value { result ≡ number_of fresh_desk (shortlist book.now numbers.old) }
+    ensures numbers_after { numbers.new ≡ lent_after fresh_desk (shortlist book.now numbers.old) }
+    ensures count_after { let c = shortlist book.now numbers.old in count.new ≡ leaves result count.old (lent_size fresh_desk c) }
 {
     let answered = desk::shortlist(book, numbers);
     match answered {

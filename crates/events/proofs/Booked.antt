@@ -4,70 +4,70 @@ use mathlib.Core.Path.{◌≡◌, refl, sym, ap, ◌∙◌}
 use mathlib.Core.List.{List, ◌++◌}
 use native.Mathlib.Omega.{arith}
 use lib.ListN.{length, get_or, set}
-use Rattle.table.specs.Table.{Table, Grade, Counted, Sound, obligorsIn}
+use Rattle.table.specs.Table.{Table, Grade, Counted, Sound, obligors_in}
 use Rattle.table.specs.Place.{blank, place_of}
-use Rattle.table.specs.Words.{words_of, tableIn, HoldsTable}
-use Rattle.table.proofs.Every.{every-at}
+use Rattle.table.specs.Words.{words_of, table_in, HoldsTable}
+use Rattle.table.proofs.Every.{every_at}
 use Rattle.book.specs.Checks.{fault}
 use Rattle.book.proofs.Checks.{Holds, held, found, none, pass, go}
-use Rattle.pooled_place.specs.PooledPlace.{list_of, pooledPlaceOf}
-use Rattle.pooled_place.specs.Words.{pooledPlaceWords}
-use Rattle.events.specs.Events.{Event, gradeNumbered, gradeAfter, tableAfter, firmChecks, eventFault}
+use Rattle.pooled_place.specs.PooledPlace.{list_of, pooled_place_of}
+use Rattle.pooled_place.specs.Words.{pooled_place_words}
+use Rattle.events.specs.Events.{Event, grade_numbered, grade_after, table_after, firm_checks, event_fault}
 use Rattle.events.specs.declared.Event.TheVariants.{SurvivorEnters, SurvivorLeaves, SurvivorDefaults, DefaultedRemoved}
 use Rattle.events.specs.declared.Counts.{Counts}
-use Rattle.events.specs.Private.{gradeOf, countsOf, Takes}
-use Rattle.events.proofs.Tables.{same-announced, obligors-at}
-use Rattle.events.proofs.Stored.{read, words-set}
+use Rattle.events.specs.Private.{grade_of, counts_of_lem, Takes}
+use Rattle.events.proofs.Tables.{same_announced, obligors-at}
+use Rattle.events.proofs.Stored.{read, words_set}
 
-pub same-checks : (e : Event) (r : Grade) (n : ℕ) → firmChecks e (gradeOf (countsOf r)) n ≡ firmChecks e r n
+pub same-checks : (e : Event) (r : Grade) (n : ℕ) → firm_checks e (grade_of (counts_of_lem r)) n ≡ firm_checks e r n
 same-checks SurvivorEnters r n = refl
 same-checks SurvivorLeaves r n = refl
 same-checks SurvivorDefaults r n = refl
 same-checks DefaultedRemoved r n = refl
 
-pub same_after : (e : Event) (r : Grade) → countsOf (gradeAfter e (gradeOf (countsOf r))) ≡ countsOf (gradeAfter e r)
+pub same_after : (e : Event) (r : Grade) → counts_of_lem (grade_after e (grade_of (counts_of_lem r))) ≡ counts_of_lem (grade_after e r)
 same_after SurvivorEnters r = refl
 same_after SurvivorLeaves r = refl
 same_after SurvivorDefaults r = refl
 same_after DefaultedRemoved r = refl
 
-takes : (e : Event) (r : Grade) (n : ℕ) → Counted r → r.obligors ≤ 1_000_000 → Holds (firmChecks e r n) → Takes e (countsOf r)
+takes : (e : Event) (r : Grade) (n : ℕ) → Counted r → r.obligors ≤ 1_000_000 → Holds (firm_checks e r n) → Takes e (counts_of_lem r)
 takes SurvivorEnters r n c o h = o
 takes SurvivorLeaves r n c o h = omega (arith, h.0)
 takes SurvivorDefaults r n c o h = (omega (arith, h.0), o)
 takes DefaultedRemoved r n c o h = (h.0, c)
 
 -- Grade g is of the sound table t, and has the counts `at`.
-module _ (e : Event) (g : ℕ) (t : Table) (s : Sound t) (from : 1 ≤ g) (to : g ≤ length t) (at : Counts) (same : at ≡ countsOf (gradeNumbered t g)) where
+module _ (e : Event) (g : ℕ) (t : Table) (s : Sound t) (from : 1 ≤ g) (to : g ≤ length t) (at : Counts) (same : at ≡ counts_of_lem (grade_numbered t g)) where
   inside : g - 1 < length t
   inside = omega arith
 
-  pub at-counted : Counted (gradeOf at)
-  at-counted = rw same (every-at Counted blank t s.counted (g - 1) inside)
+  pub at_counted : Counted (grade_of at)
+  at_counted = rw same (every_at Counted blank t s.counted (g - 1) inside)
 
   -- n is the fault that was found for these counts.
-  module _ (n : ℕ) (checked : n ≡ fault (firmChecks e (gradeOf at) (obligorsIn t))) where
-    firms : n ≡ fault (firmChecks e (gradeNumbered t g) (obligorsIn t))
-    firms = checked ∙ ap (λ (c : Counts). fault (firmChecks e (gradeOf c) (obligorsIn t))) same ∙ ap fault (same-checks e (gradeNumbered t g) (obligorsIn t))
+  module _ (n : ℕ) (checked : n ≡ fault (firm_checks e (grade_of at) (obligors_in t))) where
+    firms : n ≡ fault (firm_checks e (grade_numbered t g) (obligors_in t))
+    firms = checked ∙ ap (λ (c : Counts). fault (firm_checks e (grade_of c) (obligors_in t))) same ∙ ap fault (same-checks e (grade_numbered t g) (obligors_in t))
 
-    pub event-fault : n ≡ eventFault e g t
-    unfolding eventFault
+    pub event-fault : n ≡ event_fault e g t
+    unfolding event_fault
     event-fault = go (sym (found (pass from (pass to none)))) firms
 
     pub at_takes : n ≡ 0 → Takes e at
     at_takes z =
         rw same
-        (takes e (gradeNumbered t g) (obligorsIn t) (every-at Counted blank t s.counted (g - 1) inside) (omega (arith, s.total, obligors-at t (g - 1) inside))
-        (held (firmChecks e (gradeNumbered t g) (obligorsIn t)) (sym firms ∙ z)))
+        (takes e (grade_numbered t g) (obligors_in t) (every_at Counted blank t s.counted (g - 1) inside) (omega (arith, s.total, obligors-at t (g - 1) inside))
+        (held (firm_checks e (grade_numbered t g) (obligors_in t)) (sym firms ∙ z)))
 
-  pub after-counts : {after : Counts} → after ≡ countsOf (gradeAfter e (gradeOf at)) → after ≡ countsOf (gradeAfter e (gradeNumbered t g))
-  after-counts h = h ∙ ap (λ (c : Counts). countsOf (gradeAfter e (gradeOf c))) same ∙ same_after e (gradeNumbered t g)
+  pub after_counts : {after : Counts} → after ≡ counts_of_lem (grade_after e (grade_of at)) → after ≡ counts_of_lem (grade_after e (grade_numbered t g))
+  after_counts h = h ∙ ap (λ (c : Counts). counts_of_lem (grade_after e (grade_of c))) same ∙ same_after e (grade_numbered t g)
 
 -- The counts as they are read from words of t, whose index is i.
-pub read-counts : (w : List ℕ) (i g n : ℕ) (t : Table) → n ≡ get_or w i 0 → HoldsTable w → tableIn w ≡ t → i ≡ g - 1 → i < length t
-    → ◌≡◌ {A = Counts} (record { obligors = record { 0 = n }; defaults = get_or w (40 + i) 0 }) (countsOf (gradeNumbered t g))
-read-counts w i g n t of h e k inside =
-    let near : i < length (tableIn w) = omega (arith, ap (λ (u : Table). length u) e) in
+pub read_counts : (w : List ℕ) (i g n : ℕ) (t : Table) → n ≡ get_or w i 0 → HoldsTable w → table_in w ≡ t → i ≡ g - 1 → i < length t
+    → ◌≡◌ {A = Counts} (record { obligors = record { 0 = n }; defaults = get_or w (40 + i) 0 }) (counts_of_lem (grade_numbered t g))
+read_counts w i g n t of h e k inside =
+    let near : i < length (table_in w) = omega (arith, ap (λ (u : Table). length u) e) in
     let r = read w i h near in
     let same = ap (λ (u : Table). get_or u i blank) e ∙ ap (λ (j : ℕ). get_or t j blank) k in
     let o = of ∙ r.obligors ∙ ap (λ (x : Grade). x.obligors) same in
@@ -75,17 +75,17 @@ read-counts w i g n t of h e k inside =
     rw (o, d) refl
 
 -- and as they are stored in the words of t and its list.
-pub stored-counts : (w : List ℕ) (i g : ℕ) (t : Table) (e : Event) (after : Counts) → Sound t → w ≡ pooledPlaceWords (pooledPlaceOf t) → i ≡ g - 1 → i < length t
-    → after ≡ countsOf (gradeAfter e (gradeNumbered t g))
-    → set (set w i after.obligors.0) (40 + i) after.defaults ≡ words_of (place_of (tableAfter e g t)) ++ list_of t
-unfolding tableAfter
-stored-counts w i g t e after s h k inside a =
-    let r = gradeAfter e (gradeNumbered t g) in
+pub stored_counts : (w : List ℕ) (i g : ℕ) (t : Table) (e : Event) (after : Counts) → Sound t → w ≡ pooled_place_words (pooled_place_of t) → i ≡ g - 1 → i < length t
+    → after ≡ counts_of_lem (grade_after e (grade_numbered t g))
+    → set (set w i after.obligors.0) (40 + i) after.defaults ≡ words_of (place_of (table_after e g t)) ++ list_of t
+unfolding table_after
+stored_counts w i g t e after s h k inside a =
+    let r = grade_after e (grade_numbered t g) in
     let o = ap (λ (c : Counts). c.obligors.0) a in
     let d = ap (λ (c : Counts). c.defaults) a in
-    let same : r.announced ≡ (get_or t i blank).announced = same-announced e (gradeNumbered t g) ∙ ap (λ (j : ℕ). (get_or t j blank).announced) (sym k) in
+    let same : r.announced ≡ (get_or t i blank).announced = same_announced e (grade_numbered t g) ∙ ap (λ (j : ℕ). (get_or t j blank).announced) (sym k) in
     ap (λ (v : List ℕ). set (set v i after.obligors.0) (40 + i) after.defaults) h
-    ∙ ap (λ (n : ℕ). set (set (pooledPlaceWords (pooledPlaceOf t)) i n) (40 + i) after.defaults) o
-    ∙ ap (λ (n : ℕ). set (set (pooledPlaceWords (pooledPlaceOf t)) i r.obligors) (40 + i) n) d
-    ∙ words-set t i r (list_of t) inside s.few same
+    ∙ ap (λ (n : ℕ). set (set (pooled_place_words (pooled_place_of t)) i n) (40 + i) after.defaults) o
+    ∙ ap (λ (n : ℕ). set (set (pooled_place_words (pooled_place_of t)) i r.obligors) (40 + i) n) d
+    ∙ words_set t i r (list_of t) inside s.few same
     ∙ ap (λ (j : ℕ). words_of (place_of (set t j r)) ++ list_of t) k

@@ -1,12 +1,12 @@
 // Firms that come and go (document 02's R-8): the four events at a grade of the table in a place, whose pooled list is made anew.
 ghost use Rattle.std.specs.Prelude.{◌≤◌, ◌<◌, ◌≡◌, [], ◌∷◌, length, get_or};
-ghost use Rattle.table.specs.Table.{Counted, obligorsIn};
+ghost use Rattle.table.specs.Table.{Counted, obligors_in};
 ghost use Rattle.table.specs.Place.{blank};
-ghost use Rattle.table.specs.Words.{tableIn, HoldsTable};
+ghost use Rattle.table.specs.Words.{table_in, HoldsTable};
 ghost use Rattle.book.specs.Checks.{at_most, fault};
 ghost use Rattle.pooled_place.specs.Words.{HoldsPooledTable};
-ghost use Rattle.events.specs.Events.{gradeAfter, tableAfter, firmChecks, eventFault};
-ghost use Rattle.events.specs.Private.{gradeOf, countsOf, Takes, wordsAfter};
+ghost use Rattle.events.specs.Events.{grade_after, table_after, firm_checks, event_fault};
+ghost use Rattle.events.specs.Private.{grade_of, counts_of_lem, Takes, words_after_lem};
 ghost use Rattle.events.specs.Claims.{Claims};
 
 use pooled_place::{counts_of, pool_anew};
@@ -39,7 +39,7 @@ fn firm_fault(firms: u32) -> u32
 // 37 where there is no such firm, or it would be the last obligor of the table that goes, or else 0.
 fn exit_fault(firms: u32, counts: &[u32]) -> u32
     requires { HoldsTable counts.now }
-    ensures { result ≡ fault (at_most 1 firms 37 ∷ at_most 2 (obligorsIn (tableIn counts.now)) 37 ∷ []) }
+    ensures { result ≡ fault (at_most 1 firms 37 ∷ at_most 2 (obligors_in (table_in counts.now)) 37 ∷ []) }
 {
     if firms == 0 {
         return NO_FIRM;
@@ -51,7 +51,7 @@ fn exit_fault(firms: u32, counts: &[u32]) -> u32
 // 38 where the table has no room for one more obligor, or else 0.
 fn entry_fault(counts: &[u32]) -> u32
     requires { HoldsTable counts.now }
-    ensures { result ≡ fault (firmChecks Event.SurvivorEnters blank (obligorsIn (tableIn counts.now))) }
+    ensures { result ≡ fault (firm_checks Event.SurvivorEnters blank (obligors_in (table_in counts.now))) }
 {
     let all = obligors_of(counts);
     if all.0 < OBLIGORS { 0 } else { FULL_TABLE }
@@ -60,8 +60,8 @@ fn entry_fault(counts: &[u32]) -> u32
 impl Event {
     // 0, or the number that the event is refused with at a grade with these counts.
     fn fault(self, at: Counts, counts: &[u32]) -> u32
-        requires { HoldsTable counts.now × Counted (gradeOf at) }
-        ensures { result ≡ fault (firmChecks self (gradeOf at) (obligorsIn (tableIn counts.now))) }
+        requires { HoldsTable counts.now × Counted (grade_of at) }
+        ensures { result ≡ fault (firm_checks self (grade_of at) (obligors_in (table_in counts.now))) }
     {
         let survivors = at.obligors.survivors(at.defaults);
         match self {
@@ -75,7 +75,7 @@ impl Event {
     // The counts of the grade after it.
     fn after(self, at: Counts) -> Counts
         requires { Takes self at }
-        ensures { result ≡ countsOf (gradeAfter self (gradeOf at)) }
+        ensures { result ≡ counts_of_lem (grade_after self (grade_of at)) }
     {
         let obligors = at.obligors;
         match self {
@@ -102,8 +102,8 @@ impl Event {
 // Books an event at a grade, the best being 1, of the table in a lent place, and makes its pooled list anew; 0, or the refusal number.
 pub fn book_event(words: &mut [u32], event: Event, grade: u32) -> u32
     requires { HoldsPooledTable words.old }
-    ensures value { result ≡ eventFault event grade (tableIn words.old) }
-    ensures words_after { let w = words.old in words.new ≡ wordsAfter result (tableAfter event grade (tableIn w)) w }
+    ensures value { result ≡ event_fault event grade (table_in words.old) }
+    ensures words_after { let w = words.old in words.new ≡ words_after_lem result (table_after event grade (table_in w)) w }
 {
     let g = wide(grade);
     let counts = counts_of(words);

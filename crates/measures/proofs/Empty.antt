@@ -3,22 +3,22 @@ use mathlib.Core.Path.{◌≡◌, refl}
 use mathlib.Core.List.{[], ◌∷◌}
 use native.Mathlib.Omega.{arith}
 use Rattle.table.specs.Table.{Table, Every, Counted, occupied, survivors}
-use Rattle.table.proofs.Occupied.{by-grade, same-counts}
+use Rattle.table.proofs.Occupied.{by-grade, same_counts}
 use Rattle.measures.specs.Pairs.{concordant, discordant, tied}
-use Rattle.measures.specs.Brier.{brierSum, brierOf}
+use Rattle.measures.specs.Brier.{brier_sum, brier_of}
 
 record SameSums (t u : Table) : Type 0 where
   pub concordant-pairs : concordant t ≡ concordant u
   pub discordant-pairs : discordant t ≡ discordant u
   pub tied-pairs : tied t ≡ tied u
-  pub scores : brierSum t ≡ brierSum u
+  pub scores : brier_sum t ≡ brier_sum u
 
-same-sums : (t : Table) → Every Counted t → SameSums (occupied t) t
-unfolding occupied concordant discordant tied brierSum
-same-sums [] h = record { concordant-pairs = refl; discordant-pairs = refl; tied-pairs = refl; scores = refl }
-same-sums (r ∷ t) h =
-    let rest = same-sums t h.1 in
-    let same = same-counts t h.1 in
+same_sums : (t : Table) → Every Counted t → SameSums (occupied t) t
+unfolding occupied concordant discordant tied brier_sum
+same_sums [] h = record { concordant-pairs = refl; discordant-pairs = refl; tied-pairs = refl; scores = refl }
+same_sums (r ∷ t) h =
+    let rest = same_sums t h.1 in
+    let same = same_counts t h.1 in
     by-grade (λ (u : Table). SameSums u (r ∷ t)) r
     (λ _. record {
       concordant-pairs = rw (same.defaults, rest.concordant-pairs);
@@ -37,8 +37,8 @@ same-sums (r ∷ t) h =
 
 pub no_pairs : (t : Table) → Every Counted t
     → (concordant (occupied t) ≡ concordant t) × (discordant (occupied t) ≡ discordant t) × (tied (occupied t) ≡ tied t)
-no_pairs t h = let sums = same-sums t h in (sums.concordant-pairs, sums.discordant-pairs, sums.tied-pairs)
+no_pairs t h = let sums = same_sums t h in (sums.concordant-pairs, sums.discordant-pairs, sums.tied-pairs)
 
-pub no-score : (t : Table) → Every Counted t → brierOf (occupied t) ≡ brierOf t
-unfolding brierOf
-no-score t h = rw ((same-sums t h).scores, (same-counts t h).obligors) refl
+pub no_score : (t : Table) → Every Counted t → brier_of (occupied t) ≡ brier_of t
+unfolding brier_of
+no_score t h = rw ((same_sums t h).scores, (same_counts t h).obligors) refl

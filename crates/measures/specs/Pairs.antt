@@ -1,7 +1,7 @@
 -- Pairs of one defaulted with one surviving obligor, by which of the two is in the worse grade.
 use Rattle.std.specs.Prelude.{ℕ, suc, ◌+◌, ◌*◌, ◌≤◌, ◌≡◌, Bool, true, false, not, cond, ◌&&◌, ltb, eqb, length, get_or, replicate}
 use mathlib.Core.List.{List, [], ◌∷◌, ◌++◌, map, flat_map}
-use Rattle.table.specs.Table.{Table, Every, survivors, defaultsIn, survivorsIn}
+use Rattle.table.specs.Table.{Table, Every, survivors, defaults_in, survivors_in}
 use Rattle.table.specs.Place.{blank}
 
 -- Those elements of a list that pass a test, and their number.
@@ -19,15 +19,15 @@ pub record Obligor : Type 0 where
   pub defaulted : Bool
 
 -- the obligors of grades from number g on
-unfoldable pub obligorsFrom : ℕ → Table → List Obligor
-obligorsFrom g [] = []
-obligorsFrom g (r ∷ t) =
+unfoldable pub obligors_from : ℕ → Table → List Obligor
+obligors_from g [] = []
+obligors_from g (r ∷ t) =
     replicate r.defaults (record { grade = g; defaulted = true })
-    ++ (replicate (survivors r) (record { grade = g; defaulted = false }) ++ obligorsFrom (suc g) t)
+    ++ (replicate (survivors r) (record { grade = g; defaulted = false }) ++ obligors_from (suc g) t)
 
 -- all obligors of a table, in grade order
-abbrev pub obligorsOf : Table → List Obligor
-obligorsOf t = obligorsFrom 0 t
+abbrev pub obligors_of_lem : Table → List Obligor
+obligors_of_lem t = obligors_from 0 t
 
 -- No obligor stands before one of a better grade.
 unfoldable pub InGradeOrder : List Obligor → Type 0
@@ -45,32 +45,32 @@ pub record Pair : Type 0 where
   pub survived : Obligor
 
 -- all pairs: each defaulted obligor with each surviving one
-unfoldable pub pairsAmong : List Obligor → List Pair
-pairsAmong l =
+unfoldable pub pairs_among : List Obligor → List Pair
+pairs_among l =
     flat_map (λ d. map (λ s. record { defaulted = d; survived = s }) (those (λ o. not o.defaulted) l)) (those (λ o. o.defaulted) l)
 
 -- The defaulted one is in the worse grade, in the better, in the same.
 
-abbrev pub isConcordant : Pair → Bool
-isConcordant p = ltb p.survived.grade p.defaulted.grade
+abbrev pub is_concordant : Pair → Bool
+is_concordant p = ltb p.survived.grade p.defaulted.grade
 
-abbrev pub isDiscordant : Pair → Bool
-isDiscordant p = ltb p.defaulted.grade p.survived.grade
+abbrev pub is_discordant : Pair → Bool
+is_discordant p = ltb p.defaulted.grade p.survived.grade
 
-abbrev pub isTied : Pair → Bool
-isTied p = eqb p.defaulted.grade p.survived.grade
+abbrev pub is_tied : Pair → Bool
+is_tied p = eqb p.defaulted.grade p.survived.grade
 
 -- Their numbers, grade by grade: that they are is the claim PairsAreCounted.
 
 -- C
 unfoldable pub concordant : Table → ℕ
 concordant [] = 0
-concordant (r ∷ t) = survivors r * defaultsIn t + concordant t
+concordant (r ∷ t) = survivors r * defaults_in t + concordant t
 
 -- X
 unfoldable pub discordant : Table → ℕ
 discordant [] = 0
-discordant (r ∷ t) = r.defaults * survivorsIn t + discordant t
+discordant (r ∷ t) = r.defaults * survivors_in t + discordant t
 
 -- T
 unfoldable pub tied : Table → ℕ

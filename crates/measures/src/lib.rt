@@ -1,11 +1,11 @@
 // The measures of a rating scale: Gini, the curve areas, Pietra, and the Brier score of the announced rates.
 ghost use Rattle.std.specs.Prelude.{◌+◌, ◌-◌, ◌*◌, ◌≤◌, ◌≡◌, nat_abs};
 ghost use Rattle.std.proofs.Math.IntN.{sub_ℕ};
-ghost use Rattle.table.specs.Table.{defaultsIn, survivorsIn};
-ghost use Rattle.table.specs.Words.{tableIn, HoldsTable};
-ghost use Rattle.measures.specs.Measures.{measuresOf};
-ghost use Rattle.measures.specs.Private.{pairCountsOf, farthestOf};
-ghost use Rattle.measures.specs.Brier.{brierOf};
+ghost use Rattle.table.specs.Table.{defaults_in, survivors_in};
+ghost use Rattle.table.specs.Words.{table_in, HoldsTable};
+ghost use Rattle.measures.specs.Measures.{measures_of};
+ghost use Rattle.measures.specs.Private.{pair_counts_of, farthest_of};
+ghost use Rattle.measures.specs.Brier.{brier_of};
 ghost use Rattle.measures.specs.Claims.{Claims};
 
 use table::{ANNOUNCED, DEFAULTS, Obligors, PPM, Survivors, grades_of, obligors_at};
@@ -82,7 +82,7 @@ fn apart(a: u64, b: u64) -> u64
 // From the worst grade to the best: each grade's survivors with the defaults in worse grades, and its defaults with the survivors there.
 fn count_pairs(place: &[u32]) -> PairCounts
     requires { HoldsTable place.now }
-    ensures { result ≡ pairCountsOf (tableIn place.now) }
+    ensures { result ≡ pair_counts_of (table_in place.now) }
 {
     let mut i = grades_of(place);
     let mut defaulted: u32 = 0;
@@ -109,9 +109,9 @@ fn count_pairs(place: &[u32]) -> PairCounts
 // Cutoff by cutoff from none turned away, of which the height is 0, to all. `defaulted` and `survivors` are the table's.
 fn farthest(place: &[u32], defaulted: u32, survivors: Survivors) -> FarthestCutoff
     requires holds_table { HoldsTable place.now }
-    requires all_defaults { defaulted ≡ defaultsIn (tableIn place.now) }
-    requires all_survivors { survivors.0 ≡ survivorsIn (tableIn place.now) }
-    ensures { result ≡ farthestOf (tableIn place.now) }
+    requires all_defaults { defaulted ≡ defaults_in (table_in place.now) }
+    requires all_survivors { survivors.0 ≡ survivors_in (table_in place.now) }
+    ensures { result ≡ farthest_of (table_in place.now) }
 {
     let grades = grades_of(place);
     let mut i = grades;
@@ -139,7 +139,7 @@ fn farthest(place: &[u32], defaulted: u32, survivors: Survivors) -> FarthestCuto
 // The measures of the table in a lent place. Without a default or a survivor a denominator is 0.
 pub fn measure(place: &[u32]) -> Measures
     requires { HoldsTable place.now }
-    ensures { result ≡ measuresOf (tableIn place.now) }
+    ensures { result ≡ measures_of (table_in place.now) }
 {
     let counts = count_pairs(place);
     let defaulted = counts.defaults;
@@ -190,7 +190,7 @@ fn squares(defaults: u32, survivors: Survivors, rate: u32) -> u64
 // The Brier score of the announced rates of the table in a lent place.
 pub fn brier(place: &[u32]) -> UnsignedFraction
     requires { HoldsTable place.now }
-    ensures { result ≡ brierOf (tableIn place.now) }
+    ensures { result ≡ brier_of (table_in place.now) }
 {
     let mut i = grades_of(place);
     let mut all = Obligors(0);

@@ -1,11 +1,11 @@
 // A place that keeps its pooled list beside its counts (document 02's R-8).
 ghost use Rattle.std.specs.Prelude.{◌<◌, ◌≡◌, ◌++◌, length, drop};
 ghost use Rattle.table.specs.Table.{Sound};
-ghost use Rattle.table.specs.Words.{place_in, tableIn};
-ghost use Rattle.pooling.specs.Private.{blockWords, spanning};
-ghost use Rattle.pooling.specs.Numbers.{pooledInto};
-ghost use Rattle.pooled_place.specs.PooledPlace.{freshPooledPlace, SoundPooledPlace};
-ghost use Rattle.pooled_place.specs.Words.{pooledPlaceSize, pooledPlaceWords, countsIn, listIn, pooledPlaceIn, HoldsPooledTable};
+ghost use Rattle.table.specs.Words.{place_in, table_in};
+ghost use Rattle.pooling.specs.Private.{block_words, spanning};
+ghost use Rattle.pooling.specs.Numbers.{pooled_into};
+ghost use Rattle.pooled_place.specs.PooledPlace.{fresh_pooled_place, SoundPooledPlace};
+ghost use Rattle.pooled_place.specs.Words.{pooled_place_size, pooled_place_words, counts_in, list_in, pooled_place_in, HoldsPooledTable};
 
 use pooling::{BLOCKS, blocks_in, blocks_of, write_blocks};
 use table::{GRADE_COUNT, LOADED, PLACE, Place, grades_of, put_numbers, wide, wipe_words};
@@ -25,23 +25,23 @@ pub struct PooledPlace {
 
 // The words of the counts.
 pub fn counts_of(words: &[u32]) -> &[u32]
-    requires { length words.now ≡ pooledPlaceSize }
-    ensures { result.now ≡ countsIn words.now }
+    requires { length words.now ≡ pooled_place_size }
+    ensures { result.now ≡ counts_in words.now }
 {
     &words[..PLACE]
 }
 
 // The words of the list.
 pub fn list_of(words: &[u32]) -> &[u32]
-    requires { length words.now ≡ pooledPlaceSize }
-    ensures { result.now ≡ listIn words.now }
+    requires { length words.now ≡ pooled_place_size }
+    ensures { result.now ≡ list_in words.now }
 {
     &words[PLACE..]
 }
 
 // Whether the place is loaded.
 pub fn place_loaded(words: &[u32]) -> bool
-    requires { length words.now ≡ pooledPlaceSize }
+    requires { length words.now ≡ pooled_place_size }
     ensures { result ≡ (place_in words.now).loaded }
 {
     words[LOADED] == 1
@@ -49,7 +49,7 @@ pub fn place_loaded(words: &[u32]) -> bool
 
 // The grade count.
 pub fn place_grades(words: &[u32]) -> usize
-    requires { length words.now ≡ pooledPlaceSize }
+    requires { length words.now ≡ pooled_place_size }
     ensures { result ≡ (place_in words.now).grades }
 {
     wide(words[GRADE_COUNT])
@@ -57,8 +57,8 @@ pub fn place_grades(words: &[u32]) -> usize
 
 // Makes the list anew from the counts.
 pub fn pool_anew(words: &mut [u32])
-    requires { (length words.old ≡ pooledPlaceSize) × Sound (tableIn words.old) }
-    ensures { let w = words.old in words.new ≡ countsIn w ++ pooledInto (tableIn w) (listIn w) }
+    requires { (length words.old ≡ pooled_place_size) × Sound (table_in words.old) }
+    ensures { let w = words.old in words.new ≡ counts_in w ++ pooled_into (table_in w) (list_in w) }
 {
     let mut items = [0; BLOCKS];
     let counts = counts_of(words);
@@ -69,8 +69,8 @@ pub fn pool_anew(words: &mut [u32])
 
 // Makes the words those of an empty place: its counts and its list are dropped.
 pub fn wipe_place(words: &mut [u32])
-    requires { length words.old ≡ pooledPlaceSize }
-    ensures { words.new ≡ pooledPlaceWords freshPooledPlace }
+    requires { length words.old ≡ pooled_place_size }
+    ensures { words.new ≡ pooled_place_words fresh_pooled_place }
 {
     wipe_words(words);
 }
@@ -78,7 +78,7 @@ pub fn wipe_place(words: &mut [u32])
 // Stores the blocks of the table at the end of `items`, and answers where they start. Nothing is pooled: they are read from the list.
 pub fn listed_blocks(words: &[u32], items: &mut [u32; BLOCKS]) -> usize
     requires { HoldsPooledTable words.now × (length items.old ≡ 120) }
-    ensures blocks { (drop result items.new ≡ blockWords (spanning (tableIn words.now))) × (result < 120) }
+    ensures blocks { (drop result items.new ≡ block_words (spanning (table_in words.now))) × (result < 120) }
     ensures length { length items.new ≡ 120 }
 {
     blocks_in(list_of(words), place_grades(words), items)
@@ -87,7 +87,7 @@ pub fn listed_blocks(words: &[u32], items: &mut [u32; BLOCKS]) -> usize
 impl PooledPlace {
     // A place as it is on a fresh desk.
     pub fn empty() -> PooledPlace
-        ensures { result ≡ freshPooledPlace }
+        ensures { result ≡ fresh_pooled_place }
     {
         PooledPlace {
             place: Place::empty(),
@@ -98,7 +98,7 @@ impl PooledPlace {
     // The words of a place that calls left.
     pub fn words(self) -> [u32; POOLED_PLACE]
         requires { SoundPooledPlace self }
-        ensures { result ≡ pooledPlaceWords self }
+        ensures { result ≡ pooled_place_words self }
     {
         let mut words = [0u32; POOLED_PLACE];
         let place = self.place;
@@ -110,8 +110,8 @@ impl PooledPlace {
 
     // The place that words stand for.
     pub fn of_words(words: &[u32]) -> PooledPlace
-        requires { length words.now ≡ pooledPlaceSize }
-        ensures { result ≡ pooledPlaceIn words.now }
+        requires { length words.now ≡ pooled_place_size }
+        ensures { result ≡ pooled_place_in words.now }
     {
         let place = Place::of_words(counts_of(words));
         let mut pooled = [0u32; LIST];

@@ -28,9 +28,9 @@ stored-three l a x y z h =
     rw e (drop_at (take a l) _ a (length-take-le a l (omega arith)))
 
 -- numbers more, from index a on, by a callee that writes f of what stands from index s on
-pub put-more : (o w out : List ℕ) (s a : ℕ) (f : List ℕ → List ℕ) → out ≡ take s o ++ w → a ≤ s → s ≤ length o
+pub put_more : (o w out : List ℕ) (s a : ℕ) (f : List ℕ → List ℕ) → out ≡ take s o ++ w → a ≤ s → s ≤ length o
     → take a out ++ f (drop s out) ≡ take a o ++ f w
-put-more o w out s a f e k h =
+put_more o w out s a f e k h =
     let l = length-take-le s o h in
     let m : a ≤ length (take s o) = omega arith in
     rw (e, take-append-le a, take-take a, drop_at (take s o) w s l)

@@ -7,17 +7,17 @@ use lib.Dec.{ltb→lt, nltb→le}
 use lib.ListN.{drop}
 use Rattle.table.specs.Table.{Table, Every}
 use Rattle.table.proofs.Test.{by-test}
-use Rattle.pooling.specs.Pool.{Block, single, join, RateBelow, rateBelow, front, pool, Rising}
+use Rattle.pooling.specs.Pool.{Block, single, join, RateBelow, rate_below, front, pool, Rising}
 
 -- the rate of c is at most that of b
 abbrev pub AtMostRate : Block → Block → Type 0
 AtMostRate c b = c.defaults * b.obligors.0 ≤ b.defaults * c.obligors.0
 
 -- The block stays in front, or joins the next.
-pub front-cases : (P : List Block → Type 0) (b c : Block) (bs : List Block)
+pub front_cases : (P : List Block → Type 0) (b c : Block) (bs : List Block)
     → (RateBelow b c → P (b ∷ c ∷ bs)) → (AtMostRate c b → P (front (join b c) bs)) → P (front b (c ∷ bs))
 unfolding front
-front-cases P b c bs stays joins = by-test P (rateBelow b c) (λ x. stays (ltb→lt _ _ x)) (λ x. joins (nltb→le _ _ x))
+front_cases P b c bs stays joins = by-test P (rate_below b c) (λ x. stays (ltb→lt _ _ x)) (λ x. joins (nltb→le _ _ x))
 
 -- It stays where its rate is below.
 pub front_below : (b c : Block) (bs : List Block) → RateBelow b c → front b (c ∷ bs) ≡ b ∷ c ∷ bs
@@ -26,37 +26,37 @@ front_below b c bs h = rw (lt-ltb (b.defaults * c.obligors.0) (c.defaults * b.ob
 
 -- The rates rise.
 
-pub rising-tail : (b : Block) (bs : List Block) → Rising (b ∷ bs) → Rising bs
+pub rising_tail : (b : Block) (bs : List Block) → Rising (b ∷ bs) → Rising bs
 unfolding Rising
-rising-tail b [] h = tt
-rising-tail b (c ∷ bs) h = h.1
+rising_tail b [] h = tt
+rising_tail b (c ∷ bs) h = h.1
 
-pub rising-drop : (bs : List Block) (m : ℕ) → Rising bs → Rising (drop m bs)
+pub rising_drop : (bs : List Block) (m : ℕ) → Rising bs → Rising (drop m bs)
 unfolding Rising
-rising-drop bs zero h = h
-rising-drop [] (suc m) h = tt
-rising-drop (b ∷ bs) (suc m) h = rising-drop bs m (rising-tail b bs h)
+rising_drop bs zero h = h
+rising_drop [] (suc m) h = tt
+rising_drop (b ∷ bs) (suc m) h = rising_drop bs m (rising_tail b bs h)
 
-front-rising : (b : Block) (bs : List Block) → Rising bs → Rising (front b bs)
+front_rising : (b : Block) (bs : List Block) → Rising bs → Rising (front b bs)
 unfolding Rising front
-front-rising b [] h = tt
-front-rising b (c ∷ bs) h =
-    front-cases Rising b c bs (λ l. (l, h)) (λ _. front-rising (join b c) bs (rising-tail c bs h))
+front_rising b [] h = tt
+front_rising b (c ∷ bs) h =
+    front_cases Rising b c bs (λ l. (l, h)) (λ _. front_rising (join b c) bs (rising_tail c bs h))
 
-pub pool-rising : (t : Table) → Rising (pool t)
+pub pool_rising : (t : Table) → Rising (pool t)
 unfolding Rising pool
-pool-rising [] = tt
-pool-rising (r ∷ t) = front-rising (single r) (pool t) (pool-rising t)
+pool_rising [] = tt
+pool_rising (r ∷ t) = front_rising (single r) (pool t) (pool_rising t)
 
 -- What joining keeps holds of every block if it holds of every grade.
 module _ (P : Block → Type 0) (joined : (b c : Block) → P b → P c → P (join b c)) where
-  pub front-every : (b : Block) (bs : List Block) → P b → Every P bs → Every P (front b bs)
+  pub front_every : (b : Block) (bs : List Block) → P b → Every P bs → Every P (front b bs)
   unfolding front
-  front-every b [] p h = (p, tt)
-  front-every b (c ∷ bs) p h =
-      front-cases (Every P) b c bs (λ _. (p, h)) (λ _. front-every (join b c) bs (joined b c p h.0) h.1)
+  front_every b [] p h = (p, tt)
+  front_every b (c ∷ bs) p h =
+      front_cases (Every P) b c bs (λ _. (p, h)) (λ _. front_every (join b c) bs (joined b c p h.0) h.1)
 
-  pub pool-every : (t : Table) → Every (λ r. P (single r)) t → Every P (pool t)
+  pub pool_every : (t : Table) → Every (λ r. P (single r)) t → Every P (pool t)
   unfolding pool
-  pool-every [] h = tt
-  pool-every (r ∷ t) h = front-every (single r) (pool t) h.0 (pool-every t h.1)
+  pool_every [] h = tt
+  pool_every (r ∷ t) h = front_every (single r) (pool t) h.0 (pool_every t h.1)

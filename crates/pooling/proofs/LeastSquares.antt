@@ -6,15 +6,15 @@ use native.Mathlib.Nat.{mul-pos}
 use native.Mathlib.Omega.{arith}
 use lib.ListN.{length}
 use Rattle.table.specs.Table.{Table, Every, Occupied}
-use Rattle.table.proofs.Every.{every_append, every-split}
+use Rattle.table.proofs.Every.{every_append, every_split}
 use Rattle.pooling.specs.Fraction.{Fraction, Proper, AtMost, sum}
-use Rattle.pooling.specs.Regression.{AllEqual, Monotone, distance, rates, error, IsRegression, pooledRates}
-use Rattle.pooling.proofs.Proper.{proper-rates, proper-error}
-use Rattle.pooling.proofs.Scaled.{Over, Whole, Common, numerator, common, over-sum, at_most, of-at-most}
-use Rattle.pooling.proofs.Runs.{pool-level}
-use Rattle.pooling.proofs.Pooled.{pooled-monotone}
-use Rattle.pooling.proofs.Inner.{inner, over-distance, inner-close, inner-equal}
-use Rattle.pooling.proofs.Parts.{inner_below, inner-same}
+use Rattle.pooling.specs.Regression.{AllEqual, Monotone, distance, rates, error, IsRegression, pooled_rates}
+use Rattle.pooling.proofs.Proper.{proper_rates, proper_error}
+use Rattle.pooling.proofs.Scaled.{Over, Whole, Common, numerator, common, over-sum, at_most, of_at_most}
+use Rattle.pooling.proofs.Runs.{pool_level}
+use Rattle.pooling.proofs.Pooled.{pooled_monotone}
+use Rattle.pooling.proofs.Inner.{inner, over-distance, inner_close, inner_equal}
+use Rattle.pooling.proofs.Parts.{inner_below, inner_same}
 
 length-rates : (t : Table) → length (rates t) ≡ length t
 unfolding rates
@@ -28,15 +28,15 @@ module _ (t : Table) (occupied : Every Occupied t) (q : List Fraction) (mono : M
   d = rates t
 
   abbrev p : List Fraction
-  p = pooledRates t
+  p = pooled_rates t
 
   pooled : Monotone t p
-  pooled = pooled-monotone t occupied
+  pooled = pooled_monotone t occupied
 
   frame : Common (d ++ (p ++ q))
   frame =
       common _
-      (every_append Proper d (p ++ q) (proper-rates t occupied) (every_append Proper p q pooled.proper mono.proper))
+      (every_append Proper d (p ++ q) (proper_rates t occupied) (every_append Proper p q pooled.proper mono.proper))
 
   abbrev m : ℕ
   m = frame.m
@@ -46,8 +46,8 @@ module _ (t : Table) (occupied : Every Occupied t) (q : List Fraction) (mono : M
 
   whole : Every (Whole m s) d × Every (Whole m s) p × Every (Whole m s) q
   whole =
-      let (wd, rest) = every-split (Whole m s) d (p ++ q) frame.wholes in
-      let (wp, wq) = every-split (Whole m s) p q rest in
+      let (wd, rest) = every_split (Whole m s) d (p ++ q) frame.wholes in
+      let (wp, wq) = every_split (Whole m s) p q rest in
       (wd, wp, wq)
 
   infixl 80 ◌·◌
@@ -56,35 +56,35 @@ module _ (t : Table) (occupied : Every Occupied t) (q : List Fraction) (mono : M
 
   -- q has no larger product with the observed rates than with the pooled ones, which have the same with both.
   below : d · q ≤ p · q
-  below = inner_below m s (pool-level t occupied) whole.0 whole.1 q mono whole.2
+  below = inner_below m s (pool_level t occupied) whole.0 whole.1 q mono whole.2
 
   same : d · p ≡ p · p
-  same = inner-same m s (pool-level t occupied) whole.0 whole.1
+  same = inner_same m s (pool_level t occupied) whole.0 whole.1
 
-  over-pooled : Over (m * m) (2 * d · p) (error t p) (d · d + p · p)
-  over-pooled = over-distance m s t d p (length-rates t) pooled.sized whole.0 whole.1
+  over_pooled : Over (m * m) (2 * d · p) (error t p) (d · d + p · p)
+  over_pooled = over-distance m s t d p (length-rates t) pooled.sized whole.0 whole.1
 
-  over-mono : Over (m * m) (2 * d · q) (error t q) (d · d + q · q)
-  over-mono = over-distance m s t d q (length-rates t) mono.sized whole.0 whole.2
+  over_mono : Over (m * m) (2 * d · q) (error t q) (d · d + q · q)
+  over_mono = over-distance m s t d q (length-rates t) mono.sized whole.0 whole.2
 
-  over-apart : Over (m * m) (2 * p · q) (distance t p q) (p · p + q · q)
-  over-apart = over-distance m s t p q pooled.sized mono.sized whole.1 whole.2
+  over_apart : Over (m * m) (2 * p · q) (distance t p q) (p · p + q · q)
+  over_apart = over-distance m s t p q pooled.sized mono.sized whole.1 whole.2
 
   positive : 1 ≤ m * m
   positive = mul-pos frame.positive frame.positive
 
   -- The errors.
 
-  pub error-at-least : AtMost (sum (error t p) (distance t p q)) (error t q)
-  error-at-least = at_most (over-sum over-pooled over-apart) over-mono positive (omega (arith, below, same))
+  pub error_at_least : AtMost (sum (error t p) (distance t p q)) (error t q)
+  error_at_least = at_most (over-sum over_pooled over_apart) over_mono positive (omega (arith, below, same))
 
   least : AtMost (error t p) (error t q)
-  least = at_most over-pooled over-mono positive (omega (arith, below, same, inner-close (numerator m s) t p q))
+  least = at_most over_pooled over_mono positive (omega (arith, below, same, inner_close (numerator m s) t p q))
 
   unique : AtMost (error t q) (error t p) → AllEqual p q
   unique l =
-      inner-equal m s frame.positive t p q occupied pooled.sized mono.sized whole.1 whole.2
-      (omega (arith, below, same, of-at-most over-mono over-pooled (proper-error t occupied q mono) (proper-error t occupied p pooled) l))
+      inner_equal m s frame.positive t p q occupied pooled.sized mono.sized whole.1 whole.2
+      (omega (arith, below, same, of_at_most over_mono over_pooled (proper_error t occupied q mono) (proper_error t occupied p pooled) l))
 
-pub pooled-regression : (t : Table) → Every Occupied t → IsRegression t (pooledRates t)
-pooled-regression t occupied = record { monotone = pooled-monotone t occupied; least = least t occupied; unique = unique t occupied }
+pub pooled_regression : (t : Table) → Every Occupied t → IsRegression t (pooled_rates t)
+pooled_regression t occupied = record { monotone = pooled_monotone t occupied; least = least t occupied; unique = unique t occupied }

@@ -8,22 +8,22 @@ use native.Mathlib.Decide.{ℕ_discrete}
 use borrow.Author.Tests.{eq-eqb, ne_eqb}
 use lib.ListN.{length, get_or, drop}
 use Rattle.table.specs.Table.{Table, Every, Occupied, Sound}
-use Rattle.pooling.specs.Pool.{Block, RateBelow, Rising, asGrade}
-use Rattle.pooling.specs.Numbers.{gradesOf, numbersOf, pooledInto}
+use Rattle.pooling.specs.Pool.{Block, RateBelow, Rising, as_grade}
+use Rattle.pooling.specs.Numbers.{grades_of_lem, numbers_of_lem, pooled_into}
 use Rattle.pooling.specs.Private.{block, spanning, sum_of, shows}
-use Rattle.pooling.proofs.Front.{rising-tail}
-use Rattle.pooling.proofs.Scale.{scale-occupied}
-use Rattle.pooling.proofs.Spanning.{same-grades, spanning-scale, spanning-rising, spanning-numbers, spanning-count}
-use Rattle.pooling.proofs.Written.{numbers-rest}
-use Rattle.pooling.proofs.Reading.{Graded, spanning-graded, shows-own}
+use Rattle.pooling.proofs.Front.{rising_tail}
+use Rattle.pooling.proofs.Scale.{scale_occupied}
+use Rattle.pooling.proofs.Spanning.{same_grades, spanning_scale, spanning_rising, spanning-numbers, spanning_count}
+use Rattle.pooling.proofs.Written.{numbers_rest}
+use Rattle.pooling.proofs.Reading.{Graded, spanning_graded, shows_own}
 
 -- The next block has other counts than x.
 abbrev Fresh : Block → List Block → Type 0
 Fresh x [] = Unit {0}
 Fresh x (c ∷ cs) = shows x c.defaults c.obligors.0 ≡ false
 
-fresh-below : (n d : ℕ) (c : Block) → RateBelow (block 0 n d) c → shows (block 0 n d) c.defaults c.obligors.0 ≡ false
-fresh-below n d c h =
+fresh_below : (n d : ℕ) (c : Block) → RateBelow (block 0 n d) c → shows (block 0 n d) c.defaults c.obligors.0 ≡ false
+fresh_below n d c h =
     elim (ℕ_discrete d c.defaults) [
       | no m ↦ rw (ne_eqb d c.defaults m)
       | yes e ↦ elim (ℕ_discrete n c.obligors.0) [
@@ -32,15 +32,15 @@ fresh-below n d c h =
       ]
     ]
 
-fresh-rising : (c : Block) (cs : List Block) → Rising (c ∷ cs) → Fresh (block 0 c.obligors.0 c.defaults) cs
+fresh_rising : (c : Block) (cs : List Block) → Rising (c ∷ cs) → Fresh (block 0 c.obligors.0 c.defaults) cs
 unfolding Rising
-fresh-rising c [] h = tt
-fresh-rising c (e ∷ cs) h = fresh-below c.obligors.0 c.defaults e h.0
+fresh_rising c [] h = tt
+fresh_rising c (e ∷ cs) h = fresh_below c.obligors.0 c.defaults e h.0
 
 -- No block is in hand.
-fresh-first : (bs : List Block) → Every Occupied (map asGrade bs) → Fresh (block 0 0 0) bs
-fresh-first [] h = tt
-fresh-first (c ∷ cs) h =
+fresh_first : (bs : List Block) → Every Occupied (map as_grade bs) → Fresh (block 0 0 0) bs
+fresh_first [] h = tt
+fresh_first (c ∷ cs) h =
     let some : 0 ≡ c.obligors.0 → ⊥ = λ z. omega (arith, h.0, z) in
     elim (ℕ_discrete 0 c.defaults) [
       | no m ↦ rw (ne_eqb 0 c.defaults m)
@@ -51,23 +51,23 @@ fresh-first (c ∷ cs) h =
 pub record Passing (l : List ℕ) (x : Block) (rest : List Block) (k : ℕ) : Type 0 where
   pub left : ℕ
   pub tail : List ℕ
-  pub numbers : l ≡ gradesOf x left (numbersOf rest tail)
+  pub numbers : l ≡ grades_of_lem x left (numbers_of_lem rest tail)
   pub count : k ≡ left + (sum_of rest).grades
   pub fresh : Fresh x rest
   pub rising : Rising rest
   pub graded : Every Graded rest
 
-pub begin : (t : Table) → Sound t → (out : List ℕ) → Passing (pooledInto t out) (block 0 0 0) (spanning t) (length t)
-unfolding gradesOf
+pub begin : (t : Table) → Sound t → (out : List ℕ) → Passing (pooled_into t out) (block 0 0 0) (spanning t) (length t)
+unfolding grades_of_lem
 begin t s out =
     record {
       left = 0;
       tail = drop (3 * length t) out;
-      numbers = rw (← spanning-numbers t s.some-occupied) (sym (numbers-rest (spanning t) _));
-      count = omega (arith, spanning-count t s.counted s.some-occupied);
-      fresh = fresh-first (spanning t) (rw (spanning-scale t) (scale-occupied t));
-      rising = spanning-rising t;
-      graded = spanning-graded t;
+      numbers = rw (← spanning-numbers t s.some_occupied) (sym (numbers_rest (spanning t) _));
+      count = omega (arith, spanning_count t s.counted s.some_occupied);
+      fresh = fresh_first (spanning t) (rw (spanning_scale t) (scale_occupied t));
+      rising = spanning_rising t;
+      graded = spanning_graded t;
     }
 
 -- One grade more: of the block in hand, or the first of the next block c.
@@ -76,32 +76,32 @@ pub data Next (l : List ℕ) (x : Block) (rest : List Block) (k : ℕ) : Type 0 
   new : (c : Block) (cs : List Block) → rest ≡ c ∷ cs → c.defaults ≡ get_or l 0 0 → c.obligors.0 ≡ get_or l 1 0
       → shows x (get_or l 0 0) (get_or l 1 0) ≡ false → Passing (drop 3 l) (block 0 (get_or l 1 0) (get_or l 0 0)) cs k → Next l x rest k
 
-begun : (l : List ℕ) (x c : Block) (cs : List Block) (k m : ℕ) (tail : List ℕ) → c.grades ≡ m → l ≡ gradesOf c c.grades (numbersOf cs tail)
+begun : (l : List ℕ) (x c : Block) (cs : List Block) (k m : ℕ) (tail : List ℕ) → c.grades ≡ m → l ≡ grades_of_lem c c.grades (numbers_of_lem cs tail)
     → suc k ≡ c.grades + (sum_of cs).grades → Fresh x (c ∷ cs) → Rising (c ∷ cs) → Every Graded (c ∷ cs) → Next l x (c ∷ cs) k
-unfolding gradesOf
+unfolding grades_of_lem
 begun l x c cs k zero tail g e n f r h = absurd (omega (arith, g, h.0))
 begun l x c cs k (suc m) tail g e n f r h =
-    let all : l ≡ c.defaults ∷ c.obligors.0 ∷ _ ∷ gradesOf c m (numbersOf cs tail) = e ∙ ap (λ (j : ℕ). gradesOf c j (numbersOf cs tail)) g in
+    let all : l ≡ c.defaults ∷ c.obligors.0 ∷ _ ∷ grades_of_lem c m (numbers_of_lem cs tail) = e ∙ ap (λ (j : ℕ). grades_of_lem c j (numbers_of_lem cs tail)) g in
     rw all
     (new c cs refl refl refl f
     (record {
       left = m;
       tail = tail;
-      numbers = same-grades c.grades 0 c.obligors.0 c.defaults m (numbersOf cs tail);
+      numbers = same_grades c.grades 0 c.obligors.0 c.defaults m (numbers_of_lem cs tail);
       count = omega (arith, n, g);
-      fresh = fresh-rising c cs r;
-      rising = rising-tail c cs r;
+      fresh = fresh_rising c cs r;
+      rising = rising_tail c cs r;
       graded = h.1;
     }))
 
-pass : (l : List ℕ) (x : Block) (rest : List Block) (k left : ℕ) (tail : List ℕ) → l ≡ gradesOf x left (numbersOf rest tail)
+pass : (l : List ℕ) (x : Block) (rest : List Block) (k left : ℕ) (tail : List ℕ) → l ≡ grades_of_lem x left (numbers_of_lem rest tail)
     → suc k ≡ left + (sum_of rest).grades → Fresh x rest → Rising rest → Every Graded rest → Next l x rest k
-unfolding gradesOf numbersOf sum_of
+unfolding grades_of_lem numbers_of_lem sum_of
 pass l x [] k zero tail e n f r h = absurd (omega arith)
 pass l x (c ∷ cs) k zero tail e n f r h = begun l x c cs k c.grades tail refl e (omega arith) f r h
 pass l x rest k (suc j) tail e n f r h =
     rw e
-    (same (shows-own x.grades x.obligors.0 x.defaults)
+    (same (shows_own x.grades x.obligors.0 x.defaults)
     (record { left = j; tail = tail; numbers = refl; count = omega arith; fresh = f; rising = r; graded = h }))
 
 pub next : (l : List ℕ) (x : Block) (rest : List Block) (k : ℕ) → Passing l x rest (suc k) → Next l x rest k

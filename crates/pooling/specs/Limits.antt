@@ -1,8 +1,8 @@
 -- "The analysts' handbook prints fourteen band limits": these, in ppm, that of band 0 first. The search for a band is lent this list.
 use Rattle.std.specs.Prelude.{ℕ, List, [], ◌∷◌}
 
-unfoldable pub listedLimits : List ℕ
-listedLimits =
+unfoldable pub listed_limits : List ℕ
+listed_limits =
     100
     ∷ 200
     ∷ 400

@@ -1,6 +1,6 @@
 -- Pooling: neighbouring grades are joined into blocks until the default rates strictly rise.
 use Rattle.std.specs.Prelude.{◌+◌, ◌*◌, ◌≤◌, ◌<◌, ◌≡◌, Bool, cond, List, [], ◌∷◌, map, ltb, length, take, drop}
-use Rattle.table.specs.Table.{Table, Grade, occupied, defaultsIn, obligorsIn}
+use Rattle.table.specs.Table.{Table, Grade, occupied, defaults_in, obligors_in}
 -- A run of neighbouring grades: how many, their obligors and their defaults.
 pub use Rattle.pooling.specs.declared.Block.{Block}
 
@@ -21,13 +21,13 @@ join b c =
 abbrev pub RateBelow : Block → Block → Type 0
 RateBelow b c = b.defaults * c.obligors.0 < c.defaults * b.obligors.0
 
-abbrev pub rateBelow : Block → Block → Bool
-rateBelow b c = ltb (b.defaults * c.obligors.0) (c.defaults * b.obligors.0)
+abbrev pub rate_below : Block → Block → Bool
+rate_below b c = ltb (b.defaults * c.obligors.0) (c.defaults * b.obligors.0)
 
 -- b before a list of blocks: joined with the first of them for as long as its rate is not below that one's
 unfoldable pub front : Block → List Block → List Block
 front b [] = b ∷ []
-front b (c ∷ rest) = cond (rateBelow b c) (b ∷ c ∷ rest) (front (join b c) rest)
+front b (c ∷ rest) = cond (rate_below b c) (b ∷ c ∷ rest) (front (join b c) rest)
 
 -- the blocks of a table of occupied grades, best first
 unfoldable pub pool : Table → List Block
@@ -39,11 +39,11 @@ abbrev pub blocks : Table → List Block
 blocks t = pool (occupied t)
 
 -- The pooled scale: the table whose grades are the blocks. It announces nothing.
-abbrev pub asGrade : Block → Grade
-asGrade b = record { obligors = b.obligors.0; defaults = b.defaults; announced = 0 }
+abbrev pub as_grade : Block → Grade
+as_grade b = record { obligors = b.obligors.0; defaults = b.defaults; announced = 0 }
 
-abbrev pub pooledScale : Table → Table
-pooledScale t = map asGrade (blocks t)
+abbrev pub pooled_scale : Table → Table
+pooled_scale t = map as_grade (blocks t)
 
 -- The rates strictly rise from block to block.
 unfoldable pub Rising : List Block → Type 0
@@ -53,7 +53,7 @@ Rising (b ∷ c ∷ bs) = RateBelow b c × Rising (c ∷ bs)
 
 -- some grades as one block
 abbrev pub block_of : Table → Block
-block_of t = record { grades = length t; obligors = record { 0 = obligorsIn t }; defaults = defaultsIn t }
+block_of t = record { grades = length t; obligors = record { 0 = obligors_in t }; defaults = defaults_in t }
 
 -- The blocks are runs of neighbouring grades that cover the table: each is the block of at least one next grade.
 unfoldable pub Runs : List Block → Table → Type 0

@@ -1,7 +1,7 @@
 -- Serves contracts of functions inside the library only: what is promised does not rest on it.
 -- The blocks that the code holds, and their words: three numbers for each, its grades, its obligors and its defaults.
 use Rattle.std.specs.Prelude.{ℕ, zero, suc, ◌+◌, ◌≤◌, Bool, cond, ◌&&◌, List, [], ◌∷◌, eqb, get_or, drop}
-use Rattle.table.specs.Table.{Table, isOccupied}
+use Rattle.table.specs.Table.{Table, is_occupied}
 use Rattle.table.specs.Counts.{largest}
 use Rattle.pooling.specs.declared.Block.{Block}
 use Rattle.pooling.specs.Pool.{join, front}
@@ -14,13 +14,13 @@ block k n d = record { grades = k; obligors = record { 0 = n }; defaults = d }
 -- in front of t wait for a better occupied one,
 unfoldable pub waiting : Table → ℕ
 waiting [] = 0
-waiting (r ∷ t) = cond (isOccupied r) 0 (waiting t + 1)
+waiting (r ∷ t) = cond (is_occupied r) 0 (waiting t + 1)
 
 -- and these are the blocks behind them.
-unfoldable pub behindWaiting : Table → List Block
-behindWaiting [] = []
-behindWaiting (r ∷ t) =
-    cond (isOccupied r) (front (block (waiting t + 1) r.obligors r.defaults) (behindWaiting t)) (behindWaiting t)
+unfoldable pub behind_waiting : Table → List Block
+behind_waiting [] = []
+behind_waiting (r ∷ t) =
+    cond (is_occupied r) (front (block (waiting t + 1) r.obligors r.defaults) (behind_waiting t)) (behind_waiting t)
 
 -- k grades more, all empty, for the first of some blocks
 unfoldable pub lengthened : ℕ → List Block → List Block
@@ -29,7 +29,7 @@ lengthened k (b ∷ bs) = block (k + b.grades) b.obligors.0 b.defaults ∷ bs
 
 -- The blocks of t, `grades` counting all that have a block's numbers: those that still wait at the end are counted to the best.
 abbrev pub spanning : Table → List Block
-spanning t = lengthened (waiting t) (behindWaiting t)
+spanning t = lengthened (waiting t) (behind_waiting t)
 
 -- all of some blocks as one
 unfoldable pub sum_of : List Block → Block
@@ -41,20 +41,20 @@ abbrev pub Fitting : Block → Type 0
 Fitting b = (b.grades ≤ largest) × (b.obligors.0 ≤ largest) × (b.defaults ≤ largest)
 
 -- the words of blocks
-unfoldable pub blockWords : List Block → List ℕ
-blockWords [] = []
-blockWords (b ∷ bs) = b.grades ∷ b.obligors.0 ∷ b.defaults ∷ blockWords bs
+unfoldable pub block_words : List Block → List ℕ
+block_words [] = []
+block_words (b ∷ bs) = b.grades ∷ b.obligors.0 ∷ b.defaults ∷ block_words bs
 
 -- the block in the three words from `at` on
-abbrev pub blockAt : List ℕ → ℕ → Block
-blockAt w at = block (get_or w at 0) (get_or w (at + 1) 0) (get_or w (at + 2) 0)
+abbrev pub block_at_lem : List ℕ → ℕ → Block
+block_at_lem w at = block (get_or w at 0) (get_or w (at + 1) 0) (get_or w (at + 2) 0)
 
 -- the blocks read back from words
-unfoldable pub blocksIn : List ℕ → List Block
-blocksIn [] = []
-blocksIn (g ∷ []) = []
-blocksIn (g ∷ n ∷ []) = []
-blocksIn (g ∷ n ∷ d ∷ w) = block g n d ∷ blocksIn w
+unfoldable pub blocks_in_lem : List ℕ → List Block
+blocks_in_lem [] = []
+blocks_in_lem (g ∷ []) = []
+blocks_in_lem (g ∷ n ∷ []) = []
+blocks_in_lem (g ∷ n ∷ d ∷ w) = block g n d ∷ blocks_in_lem w
 
 -- The numbers that stand for grades, read back as blocks: neighbours with the same counts are of one block.
 
@@ -67,6 +67,6 @@ grown d n [] = block 1 n d ∷ []
 grown d n (b ∷ bs) = cond (shows b d n) (block (b.grades + 1) b.obligors.0 b.defaults ∷ bs) (block 1 n d ∷ b ∷ bs)
 
 -- the blocks of the first k grades of some numbers
-unfoldable pub runsIn : ℕ → List ℕ → List Block
-runsIn zero l = []
-runsIn (suc k) l = grown (get_or l 0 0) (get_or l 1 0) (runsIn k (drop 3 l))
+unfoldable pub runs_in : ℕ → List ℕ → List Block
+runs_in zero l = []
+runs_in (suc k) l = grown (get_or l 0 0) (get_or l 1 0) (runs_in k (drop 3 l))

@@ -47,14 +47,14 @@ pub record IsRegression (t : Table) (p : List Fraction) : Type 0 where
   pub unique : (q : List Fraction) → Monotone t q → AtMost (error t q) (error t p) → AllEqual p q
 
 -- the rate of a block
-abbrev pub rateOf : Block → Fraction
-rateOf b = ratio b.defaults b.obligors.0
+abbrev pub rate_of : Block → Fraction
+rate_of b = ratio b.defaults b.obligors.0
 
 -- Each grade of a block gets the block's rate.
-unfoldable pub ratesIn : List Block → List Fraction
-ratesIn [] = []
-ratesIn (b ∷ bs) = replicate b.grades (rateOf b) ++ ratesIn bs
+unfoldable pub rates_in : List Block → List Fraction
+rates_in [] = []
+rates_in (b ∷ bs) = replicate b.grades (rate_of b) ++ rates_in bs
 
 -- The pooled rates, one for each grade of t.
-abbrev pub pooledRates : Table → List Fraction
-pooledRates t = ratesIn (pool t)
+abbrev pub pooled_rates : Table → List Fraction
+pooled_rates t = rates_in (pool t)

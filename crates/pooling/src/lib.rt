@@ -1,12 +1,12 @@
 // Pooling: the blocks of a table, and the three numbers that stand for each of its grades.
 ghost use Rattle.std.specs.Prelude.{◌+◌, ◌-◌, ◌*◌, ◌≤◌, ◌<◌, ◌≡◌, ◌∷◌, ◌++◌, length, take, drop};
-ghost use Rattle.table.specs.Words.{tableIn, HoldsTable};
+ghost use Rattle.table.specs.Words.{table_in, HoldsTable};
 ghost use Rattle.table.specs.Counts.{largest};
-ghost use Rattle.pooling.specs.Pool.{join, rateBelow, front, Rising};
-ghost use Rattle.pooling.specs.Private.{Fitting, sum_of, blockWords, blockAt, blocksIn, spanning, shows, runsIn};
-ghost use Rattle.pooling.specs.Band.{bandOf};
-ghost use Rattle.pooling.specs.Limits.{listedLimits};
-ghost use Rattle.pooling.specs.Numbers.{gradesOf, numbersOf};
+ghost use Rattle.pooling.specs.Pool.{join, rate_below, front, Rising};
+ghost use Rattle.pooling.specs.Private.{Fitting, sum_of, block_words, block_at_lem, blocks_in_lem, spanning, shows, runs_in};
+ghost use Rattle.pooling.specs.Band.{band_of};
+ghost use Rattle.pooling.specs.Limits.{listed_limits};
+ghost use Rattle.pooling.specs.Numbers.{grades_of_lem, numbers_of_lem};
 ghost use Rattle.pooling.specs.Claims.{Claims};
 
 use table::{DEFAULTS, Obligors, PPM, grades_of, obligors_at};
@@ -43,7 +43,7 @@ impl Block {
 
     // Whether the default rate is below that of the next block.
     fn is_below(self, next: Block) -> bool
-        ensures { result ≡ rateBelow self next }
+        ensures { result ≡ rate_below self next }
     {
         (self.defaults as u64) * (next.obligors.0 as u64)
             < (next.defaults as u64) * (self.obligors.0 as u64)
@@ -59,9 +59,9 @@ impl Block {
     // The band of the default rate, which is at most `most`: searched downwards from there in the lent list of limits. Rate and limits are
     // taken times the obligors, so that nothing is rounded.
     fn band(self, limits: &[u32], most: usize) -> usize
-        requires limits { limits.now ≡ listedLimits }
-        requires most { (bandOf self ≤ most) × (most ≤ 14) }
-        ensures { result ≡ bandOf self }
+        requires limits { limits.now ≡ listed_limits }
+        requires most { (band_of self ≤ most) × (most ≤ 14) }
+        ensures { result ≡ band_of self }
     {
         let rate = (self.defaults as u64) * (PPM as u64);
         let mut b = most;
@@ -81,7 +81,7 @@ pub const BLOCKS: usize = 120;
 // The block in the three numbers from `at` on.
 pub fn block_at(words: &[u32], at: usize) -> Block
     requires { at + 3 ≤ length words.now }
-    ensures { result ≡ blockAt words.now at }
+    ensures { result ≡ block_at_lem words.now at }
 {
     Block {
         grades: words[at],
@@ -104,9 +104,9 @@ fn store_block(items: &mut [u32; BLOCKS], at: usize, b: Block)
 // not below that one's.
 fn put_before(block: Block, items: &mut [u32; BLOCKS], from: usize) -> usize
     requires room { (length items.old ≡ 120) × (3 ≤ from) × (from ≤ 120) }
-    requires held { drop from items.old ≡ blockWords (blocksIn (drop from items.old)) }
-    requires fitting { Fitting (join block (sum_of (blocksIn (drop from items.old)))) }
-    ensures blocks { drop result items.new ≡ blockWords (front block (blocksIn (drop from items.old))) }
+    requires held { drop from items.old ≡ block_words (blocks_in_lem (drop from items.old)) }
+    requires fitting { Fitting (join block (sum_of (blocks_in_lem (drop from items.old)))) }
+    ensures blocks { drop result items.new ≡ block_words (front block (blocks_in_lem (drop from items.old))) }
     ensures length { length items.new ≡ 120 }
 {
     let mut b = block;
@@ -131,7 +131,7 @@ fn put_before(block: Block, items: &mut [u32; BLOCKS], from: usize) -> usize
 // best end is counted to the first block.
 pub fn blocks_of(place: &[u32], items: &mut [u32; BLOCKS]) -> usize
     requires { HoldsTable place.now × (length items.old ≡ 120) }
-    ensures blocks { (drop result items.new ≡ blockWords (spanning (tableIn place.now))) × (result < 120) }
+    ensures blocks { (drop result items.new ≡ block_words (spanning (table_in place.now))) × (result < 120) }
     ensures length { length items.new ≡ 120 }
 {
     let mut i = grades_of(place);
@@ -161,9 +161,9 @@ pub const NUMBERS: usize = 3;
 
 // Writes the three numbers of a block, once for each of its grades, so that they end before index `end`.
 fn write_block(x: Block, band: u32, end: usize, out: &mut [u32])
-    requires band { band ≡ bandOf x }
+    requires band { band ≡ band_of x }
     requires room { (3 * x.grades ≤ end) × (end ≤ length out.old) }
-    ensures { out.new ≡ take (end - 3 * x.grades) out.old ++ gradesOf x x.grades (drop end out.old) }
+    ensures { out.new ≡ take (end - 3 * x.grades) out.old ++ grades_of_lem x x.grades (drop end out.old) }
 {
     let mut at = end;
     let mut k: u32 = 0;
@@ -180,10 +180,10 @@ fn write_block(x: Block, band: u32, end: usize, out: &mut [u32])
 // obligors and band. The further numbers of `out` are kept. From the worst block to the best the rates fall, so no band is above that of the block
 // before.
 pub fn write_blocks(items: &[u32; BLOCKS], start: usize, grades: usize, out: &mut [u32])
-    requires held { (drop start items.now ≡ blockWords (blocksIn (drop start items.now))) × (length items.now ≡ 120) × (start < 120) }
-    requires rising { Rising (blocksIn (drop start items.now)) }
-    requires room { ((sum_of (blocksIn (drop start items.now))).grades ≡ grades) × (grades ≤ 40) × (3 * grades ≤ length out.old) }
-    ensures { out.new ≡ numbersOf (blocksIn (drop start items.now)) (drop (3 * grades) out.old) }
+    requires held { (drop start items.now ≡ block_words (blocks_in_lem (drop start items.now))) × (length items.now ≡ 120) × (start < 120) }
+    requires rising { Rising (blocks_in_lem (drop start items.now)) }
+    requires room { ((sum_of (blocks_in_lem (drop start items.now))).grades ≡ grades) × (grades ≤ 40) × (3 * grades ≤ length out.old) }
+    ensures { out.new ≡ numbers_of_lem (blocks_in_lem (drop start items.now)) (drop (3 * grades) out.old) }
 {
     let limits = BAND_LIMITS; // lent, since a search that names the constant stores it at every step
     let mut end = NUMBERS * grades;
@@ -205,7 +205,7 @@ pub fn write_blocks(items: &[u32; BLOCKS], start: usize, grades: usize, out: &mu
 // start. What stands before means nothing. From the worst grade to the best, a grade with the numbers of the one before is of the same block.
 pub fn blocks_in(numbers: &[u32], grades: usize, items: &mut [u32; BLOCKS]) -> usize
     requires { (1 ≤ grades) × (grades ≤ 40) × (3 * grades ≤ length numbers.now) × (length items.old ≡ 120) }
-    ensures blocks { (drop result items.new ≡ blockWords (runsIn grades numbers.now)) × (result < 120) }
+    ensures blocks { (drop result items.new ≡ block_words (runs_in grades numbers.now)) × (result < 120) }
     ensures length { length items.new ≡ 120 }
 {
     let mut i = NUMBERS * grades - NUMBERS;

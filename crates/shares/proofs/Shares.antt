@@ -8,24 +8,24 @@ use native.Mathlib.Omega.{arith}
 use native.Mathlib.Decide.{dec_le}
 use lib.Dec.{ltb, nltb→le}
 use lib.ListN.{length}
-use Rattle.table.specs.Table.{Table, Mixed, defaultsIn, survivorsIn}
+use Rattle.table.specs.Table.{Table, Mixed, defaults_in, survivors_in}
 use Rattle.pooling.specs.Fraction.{Fraction, Proper, Equal, ratio, sum}
 use Rattle.cutoff.specs.Best.{best}
 use Rattle.cutoff.specs.Cutoff.{cost}
-use Rattle.cutoff.proofs.Best.{is-best, ltb-order}
-use Rattle.cutoff.proofs.Cost.{cheapestCost, is-cheapest}
-use Rattle.shares.specs.Shares.{shareCost, IsCheapestShare, cheapestShare, NoDearerByShares, Below}
+use Rattle.cutoff.proofs.Best.{is_best, ltb_order}
+use Rattle.cutoff.proofs.Cost.{cheapest_cost, is_cheapest}
+use Rattle.shares.specs.Shares.{share_cost, IsCheapestShare, cheapest_share, NoDearerByShares, Below}
 
 -- D S
-abbrev pub pairsIn : Table → ℕ
-pairsIn t = defaultsIn t * survivorsIn t
+abbrev pub pairs_in : Table → ℕ
+pairs_in t = defaults_in t * survivors_in t
 
-pub pairs-pos : {t : Table} → Mixed t → 1 ≤ pairsIn t
-pairs-pos mixed = mul-pos mixed.defaulted mixed.survived
+pub pairs_pos : {t : Table} → Mixed t → 1 ≤ pairs_in t
+pairs_pos mixed = mul-pos mixed.defaulted mixed.survived
 
 -- the numerator of the cheapest cost
 abbrev pub share : Table → ℕ → ℕ → ℕ
-share t u v = cheapestCost t (u * survivorsIn t) (v * defaultsIn t)
+share t u v = cheapest_cost t (u * survivors_in t) (v * defaults_in t)
 
 -- x in the comparison of x with y: x is at most y exactly if this is at most `scaled y x`
 abbrev pub scaled : Fraction → Fraction → ℕ
@@ -33,66 +33,66 @@ scaled x y = x.plus * y.over + y.minus * x.over
 
 -- What a cutoff costs.
 
-pub share-costs-proper : (t : Table) → Mixed t → (u v g : ℕ) → Proper (shareCost t u v g)
-unfolding shareCost sum ratio
-share-costs-proper t mixed u v g = pairs-pos mixed
+pub share_costs_proper : (t : Table) → Mixed t → (u v g : ℕ) → Proper (share_cost t u v g)
+unfolding share_cost sum ratio
+share_costs_proper t mixed u v g = pairs_pos mixed
 
-cutoff-scaled : (t₁ t₂ : Table) (u v g h : ℕ)
-    → scaled (shareCost t₁ u v g) (shareCost t₂ u v h) ≡ pairsIn t₂ * cost t₁ (u * survivorsIn t₁) (v * defaultsIn t₁) g
-unfolding shareCost sum ratio cost
-cutoff-scaled t₁ t₂ u v g h = omega arith
+cutoff_scaled : (t₁ t₂ : Table) (u v g h : ℕ)
+    → scaled (share_cost t₁ u v g) (share_cost t₂ u v h) ≡ pairs_in t₂ * cost t₁ (u * survivors_in t₁) (v * defaults_in t₁) g
+unfolding share_cost sum ratio cost
+cutoff_scaled t₁ t₂ u v g h = omega arith
 
 -- What the cheapest costs.
 
-pub cheapest-share : (t : Table) (u v : ℕ) → IsCheapestShare t u v (cheapestShare t u v)
-unfolding cheapestShare shareCost sum ratio
+pub cheapest-share : (t : Table) (u v : ℕ) → IsCheapestShare t u v (cheapest_share t u v)
+unfolding cheapest_share share_cost sum ratio
 cheapest-share t u v =
-    let b = is-best ltb ltb-order (λ g. (shareCost t u v g).plus) (length t) in
+    let b = is_best ltb ltb_order (λ g. (share_cost t u v g).plus) (length t) in
     record {
-      cutoff = best ltb (λ g. (shareCost t u v g).plus) (length t);
+      cutoff = best ltb (λ g. (share_cost t u v g).plus) (length t);
       within = b.within;
       costs = refl;
       least = λ h l.
-          let le : (cheapestShare t u v).plus ≤ (shareCost t u v h).plus = nltb→le _ _ (b.none-better h l) in
-          omega (arith, mul-le-mul_left (pairsIn t) le);
+          let le : (cheapest_share t u v).plus ≤ (share_cost t u v h).plus = nltb→le _ _ (b.none_better h l) in
+          omega (arith, mul-le-mul_left (pairs_in t) le);
     }
 
-pub cheapest-shares-equal : (t : Table) (u v : ℕ) (c d : Fraction) → IsCheapestShare t u v c → IsCheapestShare t u v d → Equal c d
-cheapest-shares-equal t u v c d p q =
+pub cheapest_shares_equal : (t : Table) (u v : ℕ) (c d : Fraction) → IsCheapestShare t u v c → IsCheapestShare t u v d → Equal c d
+cheapest_shares_equal t u v c d p q =
     omega (arith, rw q.costs at (p.least q.cutoff q.within), rw p.costs at (q.least p.cutoff p.within))
 
 -- Its cutoff is the cheapest on counts, too, at the prices u S and v D.
-cheapest-on-counts : (t : Table) → Mixed t → (u v : ℕ) (c : Fraction) (p : IsCheapestShare t u v c)
-    → cost t (u * survivorsIn t) (v * defaultsIn t) p.cutoff ≡ share t u v
-cheapest-on-counts t mixed u v c p =
-    (is-cheapest t (u * survivorsIn t) (v * defaultsIn t) _).0 (record {
+cheapest_on_counts : (t : Table) → Mixed t → (u v : ℕ) (c : Fraction) (p : IsCheapestShare t u v c)
+    → cost t (u * survivors_in t) (v * defaults_in t) p.cutoff ≡ share t u v
+cheapest_on_counts t mixed u v c p =
+    (is_cheapest t (u * survivors_in t) (v * defaults_in t) _).0 (record {
       cutoff = p.cutoff;
       within = p.within;
       costs = refl;
       least = λ h l.
-          le_of_mul-le-mul_left {k = pairsIn t}
+          le_of_mul-le-mul_left {k = pairs_in t}
           (omega (
             arith,
             p.least h l,
-            rw p.costs at (cutoff-scaled t t u v p.cutoff h),
-            rw p.costs at (cutoff-scaled t t u v h p.cutoff),
+            rw p.costs at (cutoff_scaled t t u v p.cutoff h),
+            rw p.costs at (cutoff_scaled t t u v h p.cutoff),
           ))
-          (pairs-pos mixed);
+          (pairs_pos mixed);
     })
 
-cheapest-scaled : (t₁ t₂ : Table) → Mixed t₁ → (u v : ℕ) (c₁ c₂ : Fraction) → IsCheapestShare t₁ u v c₁ → IsCheapestShare t₂ u v c₂
-    → scaled c₁ c₂ ≡ pairsIn t₂ * share t₁ u v
-cheapest-scaled t₁ t₂ mixed₁ u v c₁ c₂ p₁ p₂ =
-    rw (p₁.costs, p₂.costs, cheapest-on-counts t₁ mixed₁ u v c₁ p₁) at (cutoff-scaled t₁ t₂ u v p₁.cutoff p₂.cutoff)
+cheapest_scaled : (t₁ t₂ : Table) → Mixed t₁ → (u v : ℕ) (c₁ c₂ : Fraction) → IsCheapestShare t₁ u v c₁ → IsCheapestShare t₂ u v c₂
+    → scaled c₁ c₂ ≡ pairs_in t₂ * share t₁ u v
+cheapest_scaled t₁ t₂ mixed₁ u v c₁ c₂ p₁ p₂ =
+    rw (p₁.costs, p₂.costs, cheapest_on_counts t₁ mixed₁ u v c₁ p₁) at (cutoff_scaled t₁ t₂ u v p₁.cutoff p₂.cutoff)
 
 -- Comparing.
 
 module _ (t₁ t₂ : Table) (mixed₁ : Mixed t₁) (mixed₂ : Mixed t₂) (u v : ℕ) where
   pub compared : (c₁ c₂ : Fraction) → IsCheapestShare t₁ u v c₁ → IsCheapestShare t₂ u v c₂
-      → (scaled c₁ c₂ ≡ pairsIn t₂ * share t₁ u v) × (scaled c₂ c₁ ≡ pairsIn t₁ * share t₂ u v)
-  compared c₁ c₂ p₁ p₂ = (cheapest-scaled t₁ t₂ mixed₁ u v c₁ c₂ p₁ p₂, cheapest-scaled t₂ t₁ mixed₂ u v c₂ c₁ p₂ p₁)
+      → (scaled c₁ c₂ ≡ pairs_in t₂ * share t₁ u v) × (scaled c₂ c₁ ≡ pairs_in t₁ * share t₂ u v)
+  compared c₁ c₂ p₁ p₂ = (cheapest_scaled t₁ t₂ mixed₁ u v c₁ c₂ p₁ p₂, cheapest_scaled t₂ t₁ mixed₂ u v c₂ c₁ p₂ p₁)
 
-  pub no-dearer-by-shares : NoDearerByShares u v t₁ t₂ ↔ (pairsIn t₂ * share t₁ u v ≤ pairsIn t₁ * share t₂ u v)
+  pub no-dearer-by-shares : NoDearerByShares u v t₁ t₂ ↔ (pairs_in t₂ * share t₁ u v ≤ pairs_in t₁ * share t₂ u v)
   no-dearer-by-shares =
       let one = cheapest-share t₁ u v in
       let two = cheapest-share t₂ u v in (
@@ -100,10 +100,10 @@ module _ (t₁ t₂ : Table) (mixed₁ : Mixed t₁) (mixed₂ : Mixed t₂) (u 
         λ h c₁ c₂ p₁ p₂. omega (arith, compared c₁ c₂ p₁ p₂),
       )
 
-  pub dearer-by-shares : (NoDearerByShares u v t₁ t₂ → ⊥)
+  pub dearer_by_shares : (NoDearerByShares u v t₁ t₂ → ⊥)
       → (c₁ c₂ : Fraction) → IsCheapestShare t₁ u v c₁ → IsCheapestShare t₂ u v c₂ → Below c₂ c₁
-  dearer-by-shares h c₁ c₂ p₁ p₂ =
-      elim (dec_le (pairsIn t₂ * share t₁ u v) (pairsIn t₁ * share t₂ u v)) [
+  dearer_by_shares h c₁ c₂ p₁ p₂ =
+      elim (dec_le (pairs_in t₂ * share t₁ u v) (pairs_in t₁ * share t₂ u v)) [
         | yes le ↦ absurd (h (no-dearer-by-shares.1 le))
         | no gt ↦ omega (arith, compared c₁ c₂ p₁ p₂)
       ]

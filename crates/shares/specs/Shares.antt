@@ -1,24 +1,24 @@
 -- What a cutoff costs on shares, so that scales of different books compare (document 02, R-6). D and S are the table's own totals.
 use Rattle.std.specs.Prelude.{ℕ, ◌+◌, ◌-◌, ◌*◌, ◌≤◌, ◌<◌, ◌≡◌, ltb, length}
-use Rattle.table.specs.Table.{Table, defaultsIn, survivorsIn}
+use Rattle.table.specs.Table.{Table, defaults_in, survivors_in}
 use Rattle.pooling.specs.Fraction.{Fraction, AtMost, ratio, sum}
 use Rattle.cutoff.specs.Best.{best}
 use Rattle.cutoff.specs.Cutoff.{caught, lost}
 
 -- "A second comparison works on shares: a cutoff costs u(D − y)/D + vx/S."
-unfoldable pub shareCost : Table → ℕ → ℕ → ℕ → Fraction
-shareCost t u v g = sum (ratio (u * (defaultsIn t - caught t g)) (defaultsIn t)) (ratio (v * lost t g) (survivorsIn t))
+unfoldable pub share_cost : Table → ℕ → ℕ → ℕ → Fraction
+share_cost t u v g = sum (ratio (u * (defaults_in t - caught t g)) (defaults_in t)) (ratio (v * lost t g) (survivors_in t))
 
 -- c is the cheapest cost of t on shares at u and v: some cutoff has it, and every cutoff costs at least as much.
 pub record IsCheapestShare (t : Table) (u v : ℕ) (c : Fraction) : Type 0 where
   pub cutoff : ℕ
   pub within : cutoff ≤ length t
-  pub costs : shareCost t u v cutoff ≡ c
-  pub least : (h : ℕ) → h ≤ length t → AtMost c (shareCost t u v h)
+  pub costs : share_cost t u v cutoff ≡ c
+  pub least : (h : ℕ) → h ≤ length t → AtMost c (share_cost t u v h)
 
 -- the cheapest cost: those of all cutoffs are over D S, so that their numerators compare them
-unfoldable pub cheapestShare : Table → ℕ → ℕ → Fraction
-cheapestShare t u v = shareCost t u v (best ltb (λ g. (shareCost t u v g).plus) (length t))
+unfoldable pub cheapest_share : Table → ℕ → ℕ → Fraction
+cheapest_share t u v = share_cost t u v (best ltb (λ g. (share_cost t u v g).plus) (length t))
 
 -- At u and v the cheapest cost of t₁ on shares is no more than that of t₂.
 abbrev pub NoDearerByShares : ℕ → ℕ → Table → Table → Type 0

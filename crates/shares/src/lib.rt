@@ -1,9 +1,9 @@
 // The comparison of two scales on shares, for books of different sizes: a cutoff costs u (D - y) / D + v x / S.
 ghost use Rattle.std.specs.Prelude.{◌≡◌};
-ghost use Rattle.table.specs.Words.{tableIn};
-ghost use Rattle.table.specs.Counts.{totalsOf};
+ghost use Rattle.table.specs.Words.{table_in};
+ghost use Rattle.table.specs.Counts.{totals_of_lem};
 ghost use Rattle.pooled_place.specs.Words.{HoldsPooledTable};
-ghost use Rattle.shares.specs.Judge.{Shareable, totalWeights};
+ghost use Rattle.shares.specs.Judge.{Shareable, total_weights};
 ghost use Rattle.shares.specs.Verdict.{IsVerdictByShares};
 ghost use Rattle.shares.specs.Claims.{Claims};
 
@@ -18,7 +18,7 @@ pub const OBLIGORS_ON_SHARES: u32 = 100_000;
 // A table's totals as the weights of the other. Times D1 S1 D2 S2 a cutoff's cost on shares is its cost on counts that are so weighted, at the
 // prices u S1 S2 and v D1 D2.
 fn weights_of(t: Totals) -> Weights
-    ensures { result ≡ totalWeights t }
+    ensures { result ≡ total_weights t }
 {
     let survivors = t.survivors;
     Weights {
@@ -33,9 +33,9 @@ fn weights_of(t: Totals) -> Weights
 // too. Both sides of a comparison, times the other table's D S, and their difference with its sign, fit in 64 bits.
 pub fn judge(first: &[u32], totals1: Totals, second: &[u32], totals2: Totals) -> Verdict
     requires tables { HoldsPooledTable first.now × HoldsPooledTable second.now }
-    requires shareable { Shareable (tableIn first.now) × Shareable (tableIn second.now) }
-    requires totals { (totals1 ≡ totalsOf (tableIn first.now)) × (totals2 ≡ totalsOf (tableIn second.now)) }
-    ensures { IsVerdictByShares (tableIn first.now) (tableIn second.now) result }
+    requires shareable { Shareable (table_in first.now) × Shareable (table_in second.now) }
+    requires totals { (totals1 ≡ totals_of_lem (table_in first.now)) × (totals2 ≡ totals_of_lem (table_in second.now)) }
+    ensures { IsVerdictByShares (table_in first.now) (table_in second.now) result }
 {
     let weights1 = weights_of(totals2);
     let weights2 = weights_of(totals1);

@@ -6,19 +6,19 @@ use native.Mathlib.Nat.{add-zero}
 use native.Mathlib.Omega.{arith}
 use lib.ListN.{length, drop, drop_of_length-le}
 use lib.Seq.{drop-cons}
-use Rattle.table.specs.Table.{Table, defaultsIn, survivorsIn, obligorsIn}
+use Rattle.table.specs.Table.{Table, defaults_in, survivors_in, obligors_in}
 use Rattle.table.specs.Place.{blank}
 use Rattle.measures.specs.Pairs.{concordant, discordant}
-use Rattle.shorter.specs.Cut.{Covers, coarseFrom}
+use Rattle.shorter.specs.Cut.{Covers, coarse_from}
 use Rattle.shorter.specs.Claims.{unannounced, FinestCutIsTheTable}
-use Rattle.shorter.proofs.Worth.{ends-room}
+use Rattle.shorter.proofs.Worth.{ends_room}
 
 -- Runs of one grade each, behind grade a.
-single : (t : Table) (ends : List ℕ) (a : ℕ) → Covers a (length t) ends → a + length ends ≡ length t → coarseFrom t a ends ≡ map unannounced (drop a t)
-unfolding coarseFrom defaultsIn obligorsIn
+single : (t : Table) (ends : List ℕ) (a : ℕ) → Covers a (length t) ends → a + length ends ≡ length t → coarse_from t a ends ≡ map unannounced (drop a t)
+unfolding coarse_from defaults_in obligors_in
 single t [] a h e = rw (drop_of_length-le t {i = a} (omega arith))
 single t (e ∷ ends) a h n =
-    let room = ends-room ends e (length t) h.1 in
+    let room = ends_room ends e (length t) h.1 in
     let next : e ≡ suc a = omega (arith, h.0) in
     let rest = single t ends e h.1 (omega (arith, next)) in
     let one : suc a - a ≡ 1 = omega arith in
@@ -26,13 +26,13 @@ single t (e ∷ ends) a h n =
 
 -- Announced rates play no part.
 record Same (t u : Table) : Type 0 where
-  pub survived : survivorsIn u ≡ survivorsIn t
-  pub defaulted : defaultsIn u ≡ defaultsIn t
+  pub survived : survivors_in u ≡ survivors_in t
+  pub defaulted : defaults_in u ≡ defaults_in t
   pub right : concordant u ≡ concordant t
   pub wrong : discordant u ≡ discordant t
 
 same : (t : Table) → Same t (map unannounced t)
-unfolding survivorsIn defaultsIn concordant discordant
+unfolding survivors_in defaults_in concordant discordant
 same [] = record { survived = refl; defaulted = refl; right = refl; wrong = refl }
 same (r ∷ t) =
     let s = same t in

@@ -1,8 +1,8 @@
 // A shorter scale (document 02's R-9): neighbouring grades merged into runs, so that C - X of the coarse scale is largest.
 ghost use Rattle.std.specs.Prelude.{ℕ, suc, ◌+◌, ◌-◌, ◌≤◌, ◌<◌, ◌≡◌, ◌++◌, length, take, drop};
-ghost use Rattle.table.specs.Words.{tableIn, HoldsTable};
-ghost use Rattle.shorter.specs.Cut.{coarseDifference, ShortenedInto};
-ghost use Rattle.shorter.specs.Private.{Sums, Falling, Priced, by, bestEnd, InRange, Values, Choices, RowEnd, Leads, endsIn};
+ghost use Rattle.table.specs.Words.{table_in, HoldsTable};
+ghost use Rattle.shorter.specs.Cut.{coarse_difference, ShortenedInto};
+ghost use Rattle.shorter.specs.Private.{Sums, Falling, Priced, by, best_end_lem, InRange, Values, Choices, RowEnd, Leads, ends_in};
 ghost use Rattle.shorter.specs.Claims.{Claims};
 
 use table::{DEFAULTS, GRADES, Survivors, difference, grades_of, obligors_at};
@@ -37,7 +37,7 @@ struct BestEnd {
 pub fn add_up(place: &[u32], sums: &mut [u64; SUMS])
     requires place { HoldsTable place.now }
     requires room { length sums.old ≡ 82 }
-    ensures { Sums (tableIn place.now) sums.new }
+    ensures { Sums (table_in place.now) sums.new }
 {
     let mut i = grades_of(place);
     let mut survivors = Survivors(0);
@@ -66,7 +66,7 @@ fn added(sums: &[u64; SUMS], values: &[u64; POINTS], i: usize, e: usize) -> u64
 fn best_end(sums: &[u64; SUMS], values: &[u64; POINTS], i: usize, last: usize) -> BestEnd
     requires within { (i < last) × (last ≤ 40) }
     requires priced { (e : ℕ) → i < e → e ≤ last → Priced sums.now values.now i e }
-    ensures { result ≡ bestEnd (by sums.now values.now i) i last }
+    ensures { result ≡ best_end_lem (by sums.now values.now i) i last }
 {
     let mut e = i + 1;
     let mut end = e;
@@ -158,7 +158,7 @@ fn fill_rows(
 fn write_ends(choices: &[u8; CHOICES], size: Size, out: &mut [u32])
     requires size { (1 ≤ size.runs) × (size.runs ≤ length out.old) × (size.grades ≤ 40) }
     requires choices { Leads choices.now (size.runs - 1) 0 }
-    ensures { out.new ≡ endsIn choices.now size.grades (size.runs - 1) 0 ++ drop size.runs out.old }
+    ensures { out.new ≡ ends_in choices.now size.grades (size.runs - 1) 0 ++ drop size.runs out.old }
 {
     let runs = size.runs;
     let mut i: usize = 0;
@@ -176,10 +176,10 @@ fn write_ends(choices: &[u8; CHOICES], size: Size, out: &mut [u32])
 // the coarse scale. The further numbers of `out` are kept. Document 02 leaves open which of several best cuts it is, so the contract limits it.
 pub fn shorten(place: &[u32], sums: &[u64; SUMS], runs: usize, out: &mut [u32]) -> i64
     requires place { HoldsTable place.now }
-    requires sums { Sums (tableIn place.now) sums.now }
-    requires runs { (1 ≤ runs) × (runs ≤ length (tableIn place.now)) × (runs ≤ length out.old) }
-    ensures ends { ShortenedInto (tableIn place.now) runs out.old out.new }
-    ensures difference { result ≡ coarseDifference (tableIn place.now) (take runs out.new) }
+    requires sums { Sums (table_in place.now) sums.now }
+    requires runs { (1 ≤ runs) × (runs ≤ length (table_in place.now)) × (runs ≤ length out.old) }
+    ensures ends { ShortenedInto (table_in place.now) runs out.old out.new }
+    ensures difference { result ≡ coarse_difference (table_in place.now) (take runs out.new) }
 {
     let grades = grades_of(place);
     let size = Size { runs, grades };

@@ -7,8 +7,8 @@ use native.Mathlib.Numerals.{add-one}
 use native.Mathlib.Omega.{arith}
 use borrow.Author.Tests.{eq-eqb, ne_eqb}
 use lib.ListN.{get_or, set}
-use Rattle.cutoff.specs.Verdict.{neverDearer}
-use Rattle.shortlist.specs.Private.{scale_at, Searchable, beats, winnerOf, compared}
+use Rattle.cutoff.specs.Verdict.{never_dearer_lem}
+use Rattle.shortlist.specs.Private.{scale_at, Searchable, beats, winner_of, compared}
 use Rattle.shortlist.specs.declared.beaten.Winner.{Winner}
 use Rattle.shortlist.specs.declared.beaten.Winner.TheVariants.{First, Second, Neither}
 
@@ -20,41 +20,41 @@ fewer s m h =
       long = s.long;
       inside = λ r l. s.inside r (omega arith);
       sweepable = λ r l. s.sweepable r (omega arith);
-      same-defaults = λ q r l k. s.same-defaults q r (omega arith) (omega arith);
-      same-survivors = λ q r l k. s.same-survivors q r (omega arith) (omega arith);
+      same_defaults = λ q r l k. s.same_defaults q r (omega arith) (omega arith);
+      same_survivors = λ q r l k. s.same_survivors q r (omega arith) (omega arith);
     }
 
 -- The winner says who beats whom.
 
-abbrev isFirst : Winner → Bool
-isFirst First = true
-isFirst Second = false
-isFirst Neither = false
+abbrev is_first : Winner → Bool
+is_first First = true
+is_first Second = false
+is_first Neither = false
 
-abbrev isSecond : Winner → Bool
-isSecond First = false
-isSecond Second = true
-isSecond Neither = false
+abbrev is_second : Winner → Bool
+is_second First = false
+is_second Second = true
+is_second Neither = false
 
-first-is : (x y : Bool) → isFirst (winnerOf x y) ≡ x && not y
-first-is true true = refl
-first-is true false = refl
-first-is false true = refl
-first-is false false = refl
+first_is : (x y : Bool) → is_first (winner_of x y) ≡ x && not y
+first_is true true = refl
+first_is true false = refl
+first_is false true = refl
+first_is false false = refl
 
-second_is : (x y : Bool) → isSecond (winnerOf x y) ≡ y && not x
+second_is : (x y : Bool) → is_second (winner_of x y) ≡ y && not x
 second_is true true = refl
 second_is true false = refl
 second_is false true = refl
 second_is false false = refl
 
 module _ (held : List ℕ) (i j : ℕ) {w : Winner}
-    (e : w ≡ winnerOf (neverDearer (scale_at held i) (scale_at held j)) (neverDearer (scale_at held j) (scale_at held i))) where
-  pub first-beats : beats held i j ≡ isFirst w
-  first-beats = rw e (sym (first-is (neverDearer (scale_at held i) (scale_at held j)) (neverDearer (scale_at held j) (scale_at held i))))
+    (e : w ≡ winner_of (never_dearer_lem (scale_at held i) (scale_at held j)) (never_dearer_lem (scale_at held j) (scale_at held i))) where
+  pub first_beats : beats held i j ≡ is_first w
+  first_beats = rw e (sym (first_is (never_dearer_lem (scale_at held i) (scale_at held j)) (never_dearer_lem (scale_at held j) (scale_at held i))))
 
-  pub second-beats : beats held j i ≡ isSecond w
-  second-beats = rw e (sym (second_is (neverDearer (scale_at held i) (scale_at held j)) (neverDearer (scale_at held j) (scale_at held i))))
+  pub second_beats : beats held j i ≡ is_second w
+  second_beats = rw e (sym (second_is (never_dearer_lem (scale_at held i) (scale_at held j)) (never_dearer_lem (scale_at held j) (scale_at held i))))
 
 -- A turn.
 
@@ -63,10 +63,10 @@ abbrev from : (ℕ → ℕ → Bool) → ℕ → ℕ → List ℕ → List ℕ
 from beats j i marks = compared beats j (j - i) i marks
 
 -- the same, by the winner of i and j
-abbrev pub wonBy : (ℕ → ℕ → Bool) → ℕ → ℕ → List ℕ → Winner → List ℕ
-wonBy beats j i marks First = set marks j 1
-wonBy beats j i marks Second = from beats j (i + 1) (set marks i 1)
-wonBy beats j i marks Neither = from beats j (i + 1) marks
+abbrev pub won_by : (ℕ → ℕ → Bool) → ℕ → ℕ → List ℕ → Winner → List ℕ
+won_by beats j i marks First = set marks j 1
+won_by beats j i marks Second = from beats j (i + 1) (set marks i 1)
+won_by beats j i marks Neither = from beats j (i + 1) marks
 
 module _ (beats : ℕ → ℕ → Bool) (j i : ℕ) (marks : List ℕ) (l : i < j) where
   left : j - i ≡ suc (j - suc i)
@@ -76,7 +76,7 @@ module _ (beats : ℕ → ℕ → Bool) (j i : ℕ) (marks : List ℕ) (l : i < 
   unfolding compared
   skipped h = rw (add-one i, left, ne_eqb (get_or marks i 0) 0 h)
 
-  pub won : get_or marks i 0 ≡ 0 → (w : Winner) → beats i j ≡ isFirst w → beats j i ≡ isSecond w → wonBy beats j i marks w ≡ from beats j i marks
+  pub won : get_or marks i 0 ≡ 0 → (w : Winner) → beats i j ≡ is_first w → beats j i ≡ is_second w → won_by beats j i marks w ≡ from beats j i marks
   unfolding compared
   won z First a b = rw (left, eq-eqb (get_or marks i 0) 0 z, a)
   won z Second a b = rw (add-one i, left, eq-eqb (get_or marks i 0) 0 z, a, b)

@@ -10,19 +10,19 @@ use native.Mathlib.Decide.{dec_le}
 use lib.Dec.{T, T_not, eqb, eqb_refl}
 use lib.ListN.{length, get_or, set, replicate, length-set}
 use lib.Seq.{get_or-set_same}
-use Rattle.table.proofs.Placed.{zeros-at}
+use Rattle.table.proofs.Placed.{zeros_at}
 use Rattle.table.proofs.Test.{by-test}
-use Rattle.shortlist.specs.Private.{compared, allCompared}
+use Rattle.shortlist.specs.Private.{compared, all_compared}
 use Rattle.shortlist.proofs.Top.{StrictOrder, top_of}
 
 -- A mark that is set.
 
-unset-before : (l : List ℕ) (k a : ℕ) → get_or (set l k 1) a 0 ≡ 0 → get_or l a 0 ≡ 0
-unset-before [] k a h = h
-unset-before (x ∷ l) zero zero h = absurd (omega arith)
-unset-before (x ∷ l) zero (suc a) h = h
-unset-before (x ∷ l) (suc k) zero h = h
-unset-before (x ∷ l) (suc k) (suc a) h = unset-before l k a h
+unset_before : (l : List ℕ) (k a : ℕ) → get_or (set l k 1) a 0 ≡ 0 → get_or l a 0 ≡ 0
+unset_before [] k a h = h
+unset_before (x ∷ l) zero zero h = absurd (omega arith)
+unset_before (x ∷ l) zero (suc a) h = h
+unset_before (x ∷ l) (suc k) zero h = h
+unset_before (x ∷ l) (suc k) (suc a) h = unset_before l k a h
 
 set_before : (l : List ℕ) (k a : ℕ) → 1 ≤ get_or (set l k 1) a 0 → (a ≡ k) ⊎ (1 ≤ get_or l a 0)
 set_before [] k a h = inr h
@@ -45,16 +45,16 @@ module _ (n : ℕ) (beats : ℕ → ℕ → Bool) (few : n ≤ 16) where
     pub beaten : (k : ℕ) → 1 ≤ get_or marks k 0 → Beaten k
     pub settled : (a b : ℕ) → a < b → b < m → Settled marks a b
 
-  none-marked : Marks 0 (replicate 16 0)
-  none-marked =
-      record { long = refl; beaten = λ k h. absurd (omega (arith, zeros-at 16 k)); settled = λ a b l u. absurd (omega arith) }
+  none_marked : Marks 0 (replicate 16 0)
+  none_marked =
+      record { long = refl; beaten = λ k h. absurd (omega (arith, zeros_at 16 k)); settled = λ a b l u. absurd (omega arith) }
 
   mark_set : (m : ℕ) (marks : List ℕ) (k : ℕ) → Beaten k → Marks m marks → Marks m (set marks k 1)
   mark_set m marks k by f =
       record {
         long = rw length-set f.long;
         beaten = λ a h. ⊎_elim (λ e. rw e by) (λ h. f.beaten a h) (set_before marks k a h);
-        settled = λ a b l u p q. f.settled a b l u (unset-before marks k a p) (unset-before marks k b q);
+        settled = λ a b l u p q. f.settled a b l u (unset_before marks k a p) (unset_before marks k b q);
       }
 
   -- While j is compared with those before i.
@@ -70,8 +70,8 @@ module _ (n : ℕ) (beats : ℕ → ℕ → Bool) (few : n ≤ 16) where
           settled = λ a l. elim (dec_le i a) [ yes ge ↦ let e : a ≡ i = omega arith in rw e s | no lt ↦ c.settled a (omega arith) ];
         }
 
-    all-before : (marks : List ℕ) → Comparing j j marks → Marks (suc j) marks
-    all-before marks c =
+    all_before : (marks : List ℕ) → Comparing j j marks → Marks (suc j) marks
+    all_before marks c =
         record {
           long = c.before.long;
           beaten = c.before.beaten;
@@ -83,58 +83,58 @@ module _ (n : ℕ) (beats : ℕ → ℕ → Bool) (few : n ≤ 16) where
         }
 
     -- j is beaten, and compared no more.
-    j-beaten : (i : ℕ) (marks : List ℕ) → Comparing j i marks → Beaten j → Marks (suc j) (set marks j 1)
-    j-beaten i marks c by =
+    j_beaten : (i : ℕ) (marks : List ℕ) → Comparing j i marks → Beaten j → Marks (suc j) (set marks j 1)
+    j_beaten i marks c by =
         let m = mark_set j marks j by c.before in
-        all-before (set marks j 1)
+        all_before (set marks j 1)
         (record { before = m; settled = λ a l p q. absurd (omega (arith, get_or-set_same marks j 1 0 (omega (arith, c.before.long, few)))) })
 
     -- i is beaten.
-    i-beaten : (i : ℕ) (marks : List ℕ) → i < j → Comparing j i marks → Beaten i → Comparing j (suc i) (set marks i 1)
-    i-beaten i marks l c by =
+    i_beaten : (i : ℕ) (marks : List ℕ) → i < j → Comparing j i marks → Beaten i → Comparing j (suc i) (set marks i 1)
+    i_beaten i marks l c by =
         next i (set marks i 1)
         (record {
           before = mark_set j marks i by c.before;
-          settled = λ a k p q. c.settled a k (unset-before marks i a p) (unset-before marks i j q);
+          settled = λ a k p q. c.settled a k (unset_before marks i a p) (unset_before marks i j q);
         })
         (λ p q. absurd (omega (arith, get_or-set_same marks i 1 0 (omega (arith, c.before.long, few)))))
 
-    compared-marks : (k i : ℕ) (marks : List ℕ) → i + k ≡ j → Comparing j i marks → Marks (suc j) (compared beats j k i marks)
+    compared_marks : (k i : ℕ) (marks : List ℕ) → i + k ≡ j → Comparing j i marks → Marks (suc j) (compared beats j k i marks)
     unfolding compared
-    compared-marks zero i marks e c = let s : i ≡ j = omega arith in all-before marks (rw s at c)
-    compared-marks (suc k) i marks e c =
-        let rest : (m : List ℕ) → Comparing j (suc i) m → Marks (suc j) (compared beats j k (suc i) m) = λ m d. compared-marks k (suc i) m (omega arith) d in
+    compared_marks zero i marks e c = let s : i ≡ j = omega arith in all_before marks (rw s at c)
+    compared_marks (suc k) i marks e c =
+        let rest : (m : List ℕ) → Comparing j (suc i) m → Marks (suc j) (compared beats j k (suc i) m) = λ m d. compared_marks k (suc i) m (omega arith) d in
         by-test (Marks (suc j)) (eqb (get_or marks i 0) 0)
         (λ z.
         by-test (Marks (suc j)) (beats i j)
-        (λ b. j-beaten i marks c (i, omega arith, b))
+        (λ b. j_beaten i marks c (i, omega arith, b))
         (λ a.
         by-test (Marks (suc j)) (beats j i)
-        (λ b. rest (set marks i 1) (i-beaten i marks (omega arith) c (j, small, b)))
+        (λ b. rest (set marks i 1) (i_beaten i marks (omega arith) c (j, small, b)))
         (λ b. rest marks (next i marks c (λ p q. (T_not (beats i j) a, T_not (beats j i) b))))))
         (λ z. rest marks (next i marks c (λ p q. absurd (T_not (eqb (get_or marks i 0) 0) z (rw p (eqb_refl 0))))))
 
-  all-marks : (m : ℕ) → m ≤ n → Marks m (allCompared beats m)
-  unfolding allCompared
-  all-marks zero h = none-marked
-  all-marks (suc m) h =
-      compared-marks m (omega arith) m 0 (allCompared beats m) (omega arith)
-      (record { before = all-marks m (omega arith); settled = λ a l. absurd (omega arith) })
+  all_marks : (m : ℕ) → m ≤ n → Marks m (all_compared beats m)
+  unfolding all_compared
+  all_marks zero h = none_marked
+  all_marks (suc m) h =
+      compared_marks m (omega arith) m 0 (all_compared beats m) (omega arith)
+      (record { before = all_marks m (omega arith); settled = λ a l. absurd (omega arith) })
 
   -- Once all are compared.
   module _ (order : StrictOrder n beats) where
-    all : Marks n (allCompared beats n)
-    all = all-marks n (omega arith)
+    all : Marks n (all_compared beats n)
+    all = all_marks n (omega arith)
 
-    no-mark : (k : ℕ) → ((h : ℕ) → h < n → T (beats h k) → ⊥) → get_or (allCompared beats n) k 0 ≡ 0
-    no-mark k none =
-        elim (dec_le 1 (get_or (allCompared beats n) k 0)) [
+    no_mark : (k : ℕ) → ((h : ℕ) → h < n → T (beats h k) → ⊥) → get_or (all_compared beats n) k 0 ≡ 0
+    no_mark k none =
+        elim (dec_le 1 (get_or (all_compared beats n) k 0)) [
           | yes m ↦ let (h, inside, b) = all.beaten k m in absurd (none h inside b)
           | no m ↦ omega arith
         ]
 
     -- Of two without a mark none beats the other.
-    apart : (j k : ℕ) → j < n → k < n → get_or (allCompared beats n) j 0 ≡ 0 → get_or (allCompared beats n) k 0 ≡ 0 → T (beats j k) → ⊥
+    apart : (j k : ℕ) → j < n → k < n → get_or (all_compared beats n) j 0 ≡ 0 → get_or (all_compared beats n) k 0 ≡ 0 → T (beats j k) → ⊥
     apart j k p q zj zk b =
         elim (dec_le j k) [
           | yes le ↦ elim (dec_le k j) [
@@ -144,12 +144,12 @@ module _ (n : ℕ) (beats : ℕ → ℕ → Bool) (few : n ≤ 16) where
           | no gt ↦ (all.settled k j (omega arith) p zk zj).1 b
         ]
 
-    pub marks-long : length (allCompared beats n) ≡ 16
-    marks-long = all.long
+    pub marks_long : length (all_compared beats n) ≡ 16
+    marks_long = all.long
 
-    pub unmarked-unbeaten : (k : ℕ) → k < n → (get_or (allCompared beats n) k 0 ≡ 0) ↔ ((h : ℕ) → h < n → T (beats h k) → ⊥)
+    pub unmarked-unbeaten : (k : ℕ) → k < n → (get_or (all_compared beats n) k 0 ≡ 0) ↔ ((h : ℕ) → h < n → T (beats h k) → ⊥)
     unmarked-unbeaten k inside =
         let t = top_of n beats order k inside n (omega arith) in (
-          λ z. ⊎_elim (λ e. rw e at t.unbeaten) (λ b. absurd (apart t.top k t.inside inside (no-mark t.top t.unbeaten) z b)) t.above,
-          no-mark k,
+          λ z. ⊎_elim (λ e. rw e at t.unbeaten) (λ b. absurd (apart t.top k t.inside inside (no_mark t.top t.unbeaten) z b)) t.above,
+          no_mark k,
         )

@@ -1,7 +1,7 @@
 // Which raters no other one is better than, by their pooled scales.
 ghost use Rattle.std.specs.Prelude.{◌+◌, ◌≤◌, ◌<◌, ◌≡◌, ◌++◌, length, drop};
-ghost use Rattle.cutoff.specs.Verdict.{neverDearer};
-ghost use Rattle.shortlist.specs.Private.{scale_at, Searchable, beats, winnerOf, compared, allCompared, unmarked};
+ghost use Rattle.cutoff.specs.Verdict.{never_dearer_lem};
+ghost use Rattle.shortlist.specs.Private.{scale_at, Searchable, beats, winner_of, compared, all_compared, unmarked};
 
 use crate::scales::{HELD, blocks_at};
 use book::RATERS;
@@ -18,8 +18,8 @@ pub enum Winner {
 // The better one of rater i and a later one.
 fn better_of(held: &[u32], i: usize, j: usize) -> Winner
     requires { (i < j) × Searchable held.now (j + 1) }
-    ensures { result ≡ winnerOf (neverDearer (scale_at held.now i) (scale_at held.now j))
-        (neverDearer (scale_at held.now j) (scale_at held.now i)) }
+    ensures { result ≡ winner_of (never_dearer_lem (scale_at held.now i) (scale_at held.now j))
+        (never_dearer_lem (scale_at held.now j) (scale_at held.now i)) }
 {
     let first = blocks_at(held, i);
     let second = blocks_at(held, j);
@@ -85,8 +85,8 @@ fn write_list(marks: &[u32; RATERS], raters: usize, out: &mut [u32]) -> usize
 pub fn list_unbeaten(held: &[u32; HELD], raters: usize, out: &mut [u32]) -> usize
     requires scales { Searchable held.now raters }
     requires room { raters ≤ length out.old }
-    ensures value { result ≡ length (unmarked (allCompared (beats held.now) raters) raters) }
-    ensures out_after { out.new ≡ unmarked (allCompared (beats held.now) raters) raters ++ drop result out.old }
+    ensures value { result ≡ length (unmarked (all_compared (beats held.now) raters) raters) }
+    ensures out_after { out.new ≡ unmarked (all_compared (beats held.now) raters) raters ++ drop result out.old }
 {
     let mut marks = [0u32; RATERS];
     let mut j: usize = 0;

@@ -1,8 +1,8 @@
 // The shortlist of a book (document 02's R-7): the raters for which no other rater of the book is better.
 ghost use Rattle.std.specs.Prelude.{◌≡◌, length};
-ghost use Rattle.book.specs.Reading.{bookFault};
-ghost use Rattle.shortlist.specs.Checks.{shortlistAnswer, bufferAfter};
-ghost use Rattle.shortlist.specs.Private.{heldSize, HoldsAll};
+ghost use Rattle.book.specs.Reading.{book_fault};
+ghost use Rattle.shortlist.specs.Checks.{shortlist_answer, buffer_after};
+ghost use Rattle.shortlist.specs.Private.{held_size, HoldsAll};
 ghost use Rattle.shortlist.specs.Claims.{Claims};
 
 mod beaten;
@@ -22,10 +22,10 @@ pub enum Shortlisted {
 
 // Checks a book as a whole and holds the pooled scales of its raters; 0, or the number of the first fault.
 fn read_book(book: &[u8], held: &mut [u32; HELD]) -> u32
-    requires { length held.old ≡ heldSize }
-    ensures value { result ≡ bookFault book.now }
+    requires { length held.old ≡ held_size }
+    ensures value { result ≡ book_fault book.now }
     ensures scales { result ≡ 0 → HoldsAll book.now held.new }
-    ensures length { length held.new ≡ heldSize }
+    ensures length { length held.new ≡ held_size }
 {
     let head = head_fault(book);
     if head != 0 {
@@ -40,8 +40,8 @@ fn read_book(book: &[u8], held: &mut [u32; HELD]) -> u32
 
 // The numbers of the raters of a book for which no other one is better, in book order, into a lent buffer whose further numbers are kept.
 pub fn shortlist(book: &[u8], out: &mut [u32]) -> Shortlisted
-    ensures value { result ≡ shortlistAnswer book.now (length out.old) }
-    ensures out_after { out.new ≡ bufferAfter book.now out.old }
+    ensures value { result ≡ shortlist_answer book.now (length out.old) }
+    ensures out_after { out.new ≡ buffer_after book.now out.old }
 {
     let mut held = [0u32; HELD];
     let fault = read_book(book, &mut held);

@@ -15,9 +15,9 @@ pub sum_comm : (x y : Fraction) → sum x y ≡ sum y x
 unfolding sum
 sum_comm x y = alike _ _ (omega arith) (omega arith) (mul_comm _ _)
 
-pub sum-assoc : (x y z : Fraction) → sum (sum x y) z ≡ sum x (sum y z)
+pub sum_assoc : (x y z : Fraction) → sum (sum x y) z ≡ sum x (sum y z)
 unfolding sum
-sum-assoc x y z = alike _ _ (omega arith) (omega arith) (mul_assoc _ _ _)
+sum_assoc x y z = alike _ _ (omega arith) (omega arith) (mul_assoc _ _ _)
 
 pub sum-nought : (x : Fraction) → sum nought x ≡ x
 unfolding sum nought
@@ -29,8 +29,8 @@ sum-ratio a b c d = alike _ _ refl (omega arith) refl
 
 -- The order.
 
-pub at-most-trans : (x y z : Fraction) → Proper y → AtMost x y → AtMost y z → AtMost x z
-at-most-trans x y z p h k =
+pub at_most_trans : (x y z : Fraction) → Proper y → AtMost x y → AtMost y z → AtMost x z
+at_most_trans x y z p h k =
     le_of_mul-le-mul_left {k = y.over}
     (omega (arith, mul-le-mul_left z.over h, mul-le-mul_left x.over k))
     p
@@ -43,53 +43,53 @@ unfolding sum
 sum_mono x y z w h k =
     simp sorted (omega (arith, simp sorted at (mul-le-mul_left (z.over * w.over) h), simp sorted at (mul-le-mul_left (x.over * y.over) k)))
 
-pub sum-equal : (x y z w : Fraction) → Equal x y → Equal z w → Equal (sum x z) (sum y w)
-sum-equal x y z w h k = le_antisymm (sum_mono x y z w (le_of_eq h) (le_of_eq k)) (sum_mono y x w z (le_of_eq (sym h)) (le_of_eq (sym k)))
+pub sum_equal : (x y z w : Fraction) → Equal x y → Equal z w → Equal (sum x z) (sum y w)
+sum_equal x y z w h k = le_antisymm (sum_mono x y z w (le_of_eq h) (le_of_eq k)) (sum_mono y x w z (le_of_eq (sym h)) (le_of_eq (sym k)))
 
-pub at-most-refl : (x : Fraction) → AtMost x x
-at-most-refl x = omega arith
+pub at_most_refl : (x : Fraction) → AtMost x x
+at_most_refl x = omega arith
 
 -- What is not negative makes a sum no smaller.
-pub at-most-more : (x y : Fraction) → AtMost nought y → AtMost x (sum x y)
+pub at_most_more : (x y : Fraction) → AtMost nought y → AtMost x (sum x y)
 unfolding sum nought
-at-most-more x y h = omega (arith, mul-le-mul_left (x.over * x.over) h)
+at_most_more x y h = omega (arith, mul-le-mul_left (x.over * x.over) h)
 
-pub sum-proper : (x y : Fraction) → Proper x → Proper y → Proper (sum x y)
+pub sum_proper : (x y : Fraction) → Proper x → Proper y → Proper (sum x y)
 unfolding sum
-sum-proper x y X Y = mul-pos X Y
+sum_proper x y X Y = mul-pos X Y
 
 -- How far apart: errors add up.
 
-sum-exchange : (x y z w : Fraction) → sum (sum x y) (sum z w) ≡ sum (sum x z) (sum y w)
+sum_exchange : (x y z w : Fraction) → sum (sum x y) (sum z w) ≡ sum (sum x z) (sum y w)
 unfolding sum
-sum-exchange x y z w = alike _ _ (omega arith) (omega arith) (omega arith)
+sum_exchange x y z w = alike _ _ (omega arith) (omega arith) (omega arith)
 
-reach-wider : (x y e g : Fraction) → Proper y → Proper e → AtMost e g → AtMost x (sum y e) → AtMost x (sum y g)
-reach-wider x y e g Y E h c = at-most-trans x (sum y e) (sum y g) (sum-proper y e Y E) c (sum_mono y y e g (at-most-refl y) h)
+reach_wider : (x y e g : Fraction) → Proper y → Proper e → AtMost e g → AtMost x (sum y e) → AtMost x (sum y g)
+reach_wider x y e g Y E h c = at_most_trans x (sum y e) (sum y g) (sum_proper y e Y E) c (sum_mono y y e g (at_most_refl y) h)
 
-reach-trans : (x y z e g : Fraction) → Proper y → Proper e → AtMost x (sum y e) → AtMost y (sum z g) → AtMost x (sum z (sum e g))
-reach-trans x y z e g Y E c d =
-    at-most-trans x (sum y e) (sum z (sum e g)) (sum-proper y e Y E) c
-    (rw (sum_comm e g, ← sum-assoc z g e) (sum_mono y (sum z g) e e d (at-most-refl e)))
+reach_trans : (x y z e g : Fraction) → Proper y → Proper e → AtMost x (sum y e) → AtMost y (sum z g) → AtMost x (sum z (sum e g))
+reach_trans x y z e g Y E c d =
+    at_most_trans x (sum y e) (sum z (sum e g)) (sum_proper y e Y E) c
+    (rw (sum_comm e g, ← sum_assoc z g e) (sum_mono y (sum z g) e e d (at_most_refl e)))
 
-reach-sum : (x y z w e g : Fraction) → AtMost x (sum y e) → AtMost z (sum w g) → AtMost (sum x z) (sum (sum y w) (sum e g))
-reach-sum x y z w e g c d = rw (sum-exchange y w e g) (sum_mono x (sum y e) z (sum w g) c d)
+reach_sum : (x y z w e g : Fraction) → AtMost x (sum y e) → AtMost z (sum w g) → AtMost (sum x z) (sum (sum y w) (sum e g))
+reach_sum x y z w e g c d = rw (sum_exchange y w e g) (sum_mono x (sum y e) z (sum w g) c d)
 
-pub close-equal : (x y : Fraction) {z e : Fraction} → Proper y → Proper e → Equal x y → Close y z e → Close x z e
-close-equal x y {z} {e} Y E h c = record {
-  over = at-most-trans x y (sum z e) Y (omega arith) c.over;
-  under = at-most-trans z (sum y e) (sum x e) (sum-proper y e Y E) c.under (sum_mono y x e e (omega arith) (at-most-refl e));
+pub close_equal : (x y : Fraction) {z e : Fraction} → Proper y → Proper e → Equal x y → Close y z e → Close x z e
+close_equal x y {z} {e} Y E h c = record {
+  over = at_most_trans x y (sum z e) Y (omega arith) c.over;
+  under = at_most_trans z (sum y e) (sum x e) (sum_proper y e Y E) c.under (sum_mono y x e e (omega arith) (at_most_refl e));
 }
 
 module _ {x y e : Fraction} (c : Close x y e) where
-  pub close-wider : (g : Fraction) → Proper x → Proper y → Proper e → AtMost e g → Close x y g
-  close-wider g X Y E h = record { over = reach-wider x y e g Y E h c.over; under = reach-wider y x e g X E h c.under }
+  pub close_wider : (g : Fraction) → Proper x → Proper y → Proper e → AtMost e g → Close x y g
+  close_wider g X Y E h = record { over = reach_wider x y e g Y E h c.over; under = reach_wider y x e g X E h c.under }
 
-  pub close-trans : {z g : Fraction} → Proper y → Proper e → Proper g → Close y z g → Close x z (sum e g)
-  close-trans {z} {g} Y E G d = record {
-    over = reach-trans x y z e g Y E c.over d.over;
-    under = rw (sum_comm e g) (reach-trans z y x g e Y G d.under c.under);
+  pub close_trans : {z g : Fraction} → Proper y → Proper e → Proper g → Close y z g → Close x z (sum e g)
+  close_trans {z} {g} Y E G d = record {
+    over = reach_trans x y z e g Y E c.over d.over;
+    under = rw (sum_comm e g) (reach_trans z y x g e Y G d.under c.under);
   }
 
-  pub close-sum : {z w g : Fraction} → Close z w g → Close (sum x z) (sum y w) (sum e g)
-  close-sum {z} {w} {g} d = record { over = reach-sum x y z w e g c.over d.over; under = reach-sum y x w z e g c.under d.under }
+  pub close_sum : {z w g : Fraction} → Close z w g → Close (sum x z) (sum y w) (sum e g)
+  close_sum {z} {w} {g} d = record { over = reach_sum x y z w e g c.over d.over; under = reach_sum y x w z e g c.under d.under }

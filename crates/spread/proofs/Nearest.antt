@@ -37,19 +37,19 @@ half q r b Ordering.eq c h =
     omega (arith, mul-le-mul_right b s)
 half q r b Ordering.gt c h = simp suc-mul (omega arith)
 
-pub closest-half : (a b : ℕ) → 0 < b → Half (closest a b) a b
-closest-half a b pos =
+pub closest_half : (a b : ℕ) → 0 < b → Half (closest a b) a b
+closest_half a b pos =
     rw div-add-mod' at (half (a / b) (a % b) b (compare (a % b * 2) b) (compared (a % b * 2) b) (mod-lt a pos))
 
 -- a / c rounded to q times s of the units 1 / l: q is a * l / (c * s) up to a half.
 module _ (a c l q s : ℕ) (h : Half q (a * l) (c * s)) where
-  pub rounded-close : (u : ℕ) → s * u ≤ l * 2 → Close (ratio (q * s) l) (ratio a c) (ratio 1 u)
+  pub rounded_close : (u : ℕ) → s * u ≤ l * 2 → Close (ratio (q * s) l) (ratio a c) (ratio 1 u)
   unfolding sum ratio
-  rounded-close u f =
+  rounded_close u f =
       let above = mul-le-mul_right u h.0 in
       let below = mul-le-mul_right u h.1 in
       let unit = mul-le-mul_right c f in
       record { over = omega arith; under = omega arith }
 
-  pub rounded-below : (t : ℕ) → s ≤ t * 2 → a * l < t * c → q * s < t * 2
-  rounded-below t f g = lt_of_mul-lt-mul_right c (omega (arith, h.0, mul-le-mul_right c f))
+  pub rounded_below : (t : ℕ) → s ≤ t * 2 → a * l < t * c → q * s < t * 2
+  rounded_below t f g = lt_of_mul-lt-mul_right c (omega (arith, h.0, mul-le-mul_right c f))

@@ -4,10 +4,10 @@ use Rattle.table.specs.Table.{Table, Grade, survivors}
 use Rattle.pooling.specs.Fraction.{Fraction, nought, ratio, sum, difference, square, times}
 
 -- d (1 - q)² + (n - d) q² of a grade with rate q
-abbrev pub brierOfRate : Grade → Fraction → Fraction
-brierOfRate r q = sum (times r.defaults (square (difference (ratio 1 1) q))) (times (survivors r) (square q))
+abbrev pub brier_of_rate : Grade → Fraction → Fraction
+brier_of_rate r q = sum (times r.defaults (square (difference (ratio 1 1) q))) (times (survivors r) (square q))
 
-unfoldable pub brierSumOfRates : Table → List Fraction → Fraction
-brierSumOfRates [] q = nought
-brierSumOfRates (r ∷ t) [] = nought
-brierSumOfRates (r ∷ t) (x ∷ q) = sum (brierOfRate r x) (brierSumOfRates t q)
+unfoldable pub brier_sum_of_rates : Table → List Fraction → Fraction
+brier_sum_of_rates [] q = nought
+brier_sum_of_rates (r ∷ t) [] = nought
+brier_sum_of_rates (r ∷ t) (x ∷ q) = sum (brier_of_rate r x) (brier_sum_of_rates t q)

@@ -1,11 +1,11 @@
 // The spread record: two floats, each with a proved error bound.
 ghost use Rattle.std.specs.Prelude.{◌-◌, ◌*◌, ◌≤◌};
-ghost use Rattle.table.specs.Words.{tableIn};
+ghost use Rattle.table.specs.Words.{table_in};
 ghost use Rattle.pooling.specs.Fraction.{ratio};
 ghost use Rattle.pooling.specs.Private.{spanning};
 ghost use Rattle.pooled_place.specs.Words.{HoldsPooledTable};
 ghost use Rattle.spread.specs.Near.{Within};
-ghost use Rattle.spread.specs.Spread.{IsSpread, residualSum};
+ghost use Rattle.spread.specs.Spread.{IsSpread, residual_sum};
 ghost use Rattle.spread.specs.Claims.{Claims};
 
 use pooled_place::{counts_of, place_grades};
@@ -34,7 +34,7 @@ fn quotient(defaults: u32, obligors: Obligors) -> f64
 // pooled list with the numbers of the one before is of the same block.
 fn residual(place: &[u32]) -> f64
     requires { HoldsPooledTable place.now }
-    ensures { Within result (residualSum (spanning (tableIn place.now))) 29 }
+    ensures { Within result (residual_sum (spanning (table_in place.now))) 29 }
 {
     let end = PLACE + NUMBERS * place_grades(place);
     let mut x = Block {
@@ -64,7 +64,7 @@ fn residual(place: &[u32]) -> f64
 // them.
 pub fn spread_of(place: &[u32]) -> Spread
     requires { HoldsPooledTable place.now }
-    ensures { IsSpread (tableIn place.now) result }
+    ensures { IsSpread (table_in place.now) result }
 {
     let t = totals_of(counts_of(place));
     Spread {

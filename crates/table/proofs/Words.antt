@@ -10,17 +10,17 @@ use lib.ListN.{length, get_or, set, take, drop, replicate, length-append}
 use lib.Seq.{paste, set_at, take_all, take_at, drop_at, drop-drop, get_or-take, get_or-drop}
 use Rattle.table.specs.declared.Place.{Place}
 use Rattle.table.specs.Table.{Counted, Rated, Sound}
-use Rattle.table.specs.Place.{fresh, gradeAt, table_of, place_of, SoundPlace, empty, holds}
-use Rattle.table.specs.Words.{placeSize, words_of, columnIn, place_in, HoldsTable, IsPlace}
+use Rattle.table.specs.Place.{fresh, grade_at, table_of, place_of, SoundPlace, empty, holds}
+use Rattle.table.specs.Words.{place_size, words_of, column_in, place_in, HoldsTable, IsPlace}
 use Rattle.table.proofs.Pastes.{paste-behind}
-use Rattle.table.proofs.Placed.{length-column, placed-grades, placed-loaded, sound-placed}
-use Rattle.table.proofs.Suffix.{suffix, suffix-down, every-suffix, length-grades, Small, small}
+use Rattle.table.proofs.Placed.{length-column, placed_grades, placed_loaded, sound_placed}
+use Rattle.table.proofs.Suffix.{suffix, suffix_down, every_suffix, length_grades, Small, small}
 
 -- Places that calls left.
 
-pub few-grades : {p : Place} → SoundPlace p → p.grades ≤ 40
-few-grades empty = omega arith
-few-grades (holds t s) = rw (placed-grades t) s.few
+pub few_grades : {p : Place} → SoundPlace p → p.grades ≤ 40
+few_grades empty = omega arith
+few_grades (holds t s) = rw (placed_grades t) s.few
 
 -- A place whose columns have 40 numbers each.
 pub record Long (p : Place) : Type 0 where
@@ -28,32 +28,32 @@ pub record Long (p : Place) : Type 0 where
   pub defaults : length p.defaults ≡ 40
   pub announced : length p.announced ≡ 40
 
-pub long-place : {p : Place} → SoundPlace p → Long p
+pub long_place : {p : Place} → SoundPlace p → Long p
 unfolding place_of
-long-place empty = record { obligors = refl; defaults = refl; announced = refl }
-long-place (holds t s) =
+long_place empty = record { obligors = refl; defaults = refl; announced = refl }
+long_place (holds t s) =
     record {
       obligors = length-column (λ g. g.obligors) t s.few;
       defaults = length-column (λ g. g.defaults) t s.few;
       announced = length-column (λ g. g.announced) t s.few;
     }
 
-pub not-loaded : {p : Place} → SoundPlace p → p.loaded ≡ false → p ≡ fresh
-not-loaded empty h = refl
-not-loaded (holds t s) h = let z : ◌≡◌ {A = ℕ} 0 1 = cc (rw (placed-loaded t) at h) in absurd (omega arith)
+pub not_loaded : {p : Place} → SoundPlace p → p.loaded ≡ false → p ≡ fresh
+not_loaded empty h = refl
+not_loaded (holds t s) h = let z : ◌≡◌ {A = ℕ} 0 1 = cc (rw (placed_loaded t) at h) in absurd (omega arith)
 
-pub sound-loaded : {p : Place} → SoundPlace p → p.loaded ≡ true → Sound (table_of p)
-sound-loaded empty h = let z : ◌≡◌ {A = ℕ} 0 1 = cc in absurd (omega arith)
-sound-loaded (holds t s) h = sound-placed t s
+pub sound_loaded : {p : Place} → SoundPlace p → p.loaded ≡ true → Sound (table_of p)
+sound_loaded empty h = let z : ◌≡◌ {A = ℕ} 0 1 = cc in absurd (omega arith)
+sound_loaded (holds t s) h = sound_placed t s
 
 -- Words.
 
-pub words-length : (p : Place) → Long p → length (words_of p) ≡ placeSize
-words-length p l = rw (length-append, length-append, length-append, l.obligors, l.defaults, l.announced) refl
+pub words_length : (p : Place) → Long p → length (words_of p) ≡ place_size
+words_length p l = rw (length-append, length-append, length-append, l.obligors, l.defaults, l.announced) refl
 
-flag-back : (b : Bool) → eqb (cond b 1 0) 1 ≡ b
-flag-back true = refl
-flag-back false = refl
+flag_back : (b : Bool) → eqb (cond b 1 0) 1 ≡ b
+flag_back true = refl
+flag_back false = refl
 
 -- a list whose numbers from n on are x, and behind it y
 behind : (l x y : List ℕ) (n k m : ℕ) → drop n l ≡ x ++ y → length x ≡ k → n + k ≡ m → drop m l ≡ y
@@ -83,21 +83,21 @@ module _ (p : Place) (long : Long p) where
   number : (i : ℕ) → get_or words (120 + i) 0 ≡ get_or tail i 0
   number i = sym (get_or-drop 120 words i 0) ∙ ap (λ (z : List ℕ). get_or z i 0) four
 
-  pub place-back : place_in (words_of p) ≡ p
-  place-back =
+  pub place_back : place_in (words_of p) ≡ p
+  place_back =
       let o : take 40 words ≡ p.obligors = ap (take 40) one ∙ take_at p.obligors _ 40 long.obligors in
       let d : take 40 (drop 40 words) ≡ p.defaults = ap (take 40) two ∙ take_at p.defaults _ 40 long.defaults in
       let a : take 40 (drop 80 words) ≡ p.announced = ap (take 40) three ∙ take_at p.announced _ 40 long.announced in
-      let l : eqb (get_or words 121 0) 1 ≡ p.loaded = ap (λ (n : ℕ). eqb n 1) (number 1) ∙ flag-back p.loaded in
+      let l : eqb (get_or words 121 0) 1 ≡ p.loaded = ap (λ (n : ℕ). eqb n 1) (number 1) ∙ flag_back p.loaded in
       rw (o, d, a, number 0, l) refl
 
 -- The words, stored column by column over zeros.
-pub words-put : (p : Place) → Long p → {u v w : List ℕ}
+pub words_put : (p : Place) → Long p → {u v w : List ℕ}
     → u ≡ paste (replicate 122 0) 0 p.obligors (length p.obligors)
     → v ≡ paste u 40 p.defaults (length p.defaults)
     → w ≡ paste v 80 p.announced (length p.announced)
     → set (set w 120 p.grades) 121 (cond p.loaded 1 0) ≡ words_of p
-words-put p l e f g =
+words_put p l e f g =
     let zeros : List ℕ = replicate 122 0 in
     let two = p.obligors ++ p.defaults in
     let all = p.obligors ++ p.defaults ++ p.announced in
@@ -119,44 +119,44 @@ words-put p l e f g =
     ∙ append_assoc all (p.grades ∷ []) (cond p.loaded 1 0 ∷ []))
 
 pub is-place : {p : Place} → SoundPlace p → IsPlace (words_of p)
-is-place {p} s = let e = place-back p (long-place s) in record { sound = rw e s; exact = ap words_of (sym e) }
+is-place {p} s = let e = place_back p (long_place s) in record { sound = rw e s; exact = ap words_of (sym e) }
 
-pub long-words : {w : List ℕ} → IsPlace w → length w ≡ placeSize
-long-words i = rw i.exact (words-length _ (long-place i.sound))
+pub long_words : {w : List ℕ} → IsPlace w → length w ≡ place_size
+long_words i = rw i.exact (words_length _ (long_place i.sound))
 
 -- A place that calls left and that is loaded holds a table; one that is not holds nothing.
 
 pub holds-table : {w : List ℕ} → IsPlace w → (place_in w).loaded ≡ true → HoldsTable w
-holds-table i h = record { long = long-words i; sound = sound-loaded i.sound h }
+holds-table i h = record { long = long_words i; sound = sound_loaded i.sound h }
 
-pub holds-nothing : {w : List ℕ} → IsPlace w → (place_in w).loaded ≡ false → w ≡ words_of fresh
-holds-nothing i h = i.exact ∙ ap words_of (not-loaded i.sound h)
+pub holds_nothing : {w : List ℕ} → IsPlace w → (place_in w).loaded ≡ false → w ≡ words_of fresh
+holds_nothing i h = i.exact ∙ ap words_of (not_loaded i.sound h)
 
 -- What a turn of a loop knows that goes from grade i to the next better one: where its counts stand, and the grades passed.
 pub record Turn (w : List ℕ) (i : ℕ) : Type 0 where
-  pub long : length w ≡ placeSize
+  pub long : length w ≡ place_size
   pub few : (place_in w).grades ≤ 40
-  pub obligors : get_or w (i - 1) 0 ≡ (gradeAt (place_in w) (i - 1)).obligors
-  pub defaults : get_or w (40 + (i - 1)) 0 ≡ (gradeAt (place_in w) (i - 1)).defaults
-  pub announced : get_or w (80 + (i - 1)) 0 ≡ (gradeAt (place_in w) (i - 1)).announced
-  pub counted : Counted (gradeAt (place_in w) (i - 1))
-  pub rated : Rated (gradeAt (place_in w) (i - 1))
-  pub down : suffix (place_in w) (i - 1) ≡ gradeAt (place_in w) (i - 1) ∷ suffix (place_in w) i
+  pub obligors : get_or w (i - 1) 0 ≡ (grade_at (place_in w) (i - 1)).obligors
+  pub defaults : get_or w (40 + (i - 1)) 0 ≡ (grade_at (place_in w) (i - 1)).defaults
+  pub announced : get_or w (80 + (i - 1)) 0 ≡ (grade_at (place_in w) (i - 1)).announced
+  pub counted : Counted (grade_at (place_in w) (i - 1))
+  pub rated : Rated (grade_at (place_in w) (i - 1))
+  pub down : suffix (place_in w) (i - 1) ≡ grade_at (place_in w) (i - 1) ∷ suffix (place_in w) i
   pub worse : Small (suffix (place_in w) i)
-  pub here : Small (gradeAt (place_in w) (i - 1) ∷ suffix (place_in w) i)
+  pub here : Small (grade_at (place_in w) (i - 1) ∷ suffix (place_in w) i)
 
 -- The number of grade i in the column from `at` on.
-pub column-at : (w : List ℕ) (at i : ℕ) → i < 40 → get_or w (at + i) 0 ≡ get_or (columnIn w at) i 0
+pub column-at : (w : List ℕ) (at i : ℕ) → i < 40 → get_or w (at + i) 0 ≡ get_or (column_in w at) i 0
 column-at w at i h = sym (get_or-take 40 (drop at w) i 0 h ∙ get_or-drop at w i 0)
 
-pub few-in : {w : List ℕ} → HoldsTable w → (place_in w).grades ≤ 40
-few-in {w} h = omega (arith, h.sound.few, length-grades (place_in w) 0 (place_in w).grades)
+pub few_in : {w : List ℕ} → HoldsTable w → (place_in w).grades ≤ 40
+few_in {w} h = omega (arith, h.sound.few, length_grades (place_in w) 0 (place_in w).grades)
 
 pub turn : (w : List ℕ) (i : ℕ) → HoldsTable w → 0 < i → i ≤ (place_in w).grades → Turn w i
 turn w i h pos l =
     let p = place_in w in
-    let few = few-in h in
-    let e = suffix-down p i pos l in
+    let few = few_in h in
+    let e = suffix_down p i pos l in
     let at : i - 1 ≤ p.grades = omega arith in
     let near : i - 1 < 40 = omega arith in
     record {
@@ -165,8 +165,8 @@ turn w i h pos l =
       obligors = rw zero-add at (column-at w 0 (i - 1) near);
       defaults = column-at w 40 (i - 1) near;
       announced = column-at w 80 (i - 1) near;
-      counted = (rw e at (every-suffix Counted p (i - 1) at h.sound.counted)).0;
-      rated = (rw e at (every-suffix Rated p (i - 1) at h.sound.rated)).0;
+      counted = (rw e at (every_suffix Counted p (i - 1) at h.sound.counted)).0;
+      rated = (rw e at (every_suffix Rated p (i - 1) at h.sound.rated)).0;
       down = e;
       worse = small p i h.sound l;
       here = rw e at (small p (i - 1) h.sound at);

@@ -19,16 +19,16 @@ abbrev pub fresh : Place
 fresh = marked false
 
 -- grade i, the best being 0
-abbrev pub gradeAt : Place → ℕ → Grade
-gradeAt p i = record { obligors = get_or p.obligors i 0; defaults = get_or p.defaults i 0; announced = get_or p.announced i 0 }
+abbrev pub grade_at : Place → ℕ → Grade
+grade_at p i = record { obligors = get_or p.obligors i 0; defaults = get_or p.defaults i 0; announced = get_or p.announced i 0 }
 
 -- k grades, from grade i on
-unfoldable pub gradesFrom : Place → ℕ → ℕ → Table
-gradesFrom p i zero = []
-gradesFrom p i (suc k) = gradeAt p i ∷ gradesFrom p (suc i) k
+unfoldable pub grades_from : Place → ℕ → ℕ → Table
+grades_from p i zero = []
+grades_from p i (suc k) = grade_at p i ∷ grades_from p (suc i) k
 
 abbrev pub table_of : Place → Table
-table_of p = gradesFrom p 0 p.grades
+table_of p = grades_from p 0 p.grades
 
 -- a grade that nothing was stored in
 abbrev pub blank : Grade

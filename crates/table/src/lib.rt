@@ -2,10 +2,10 @@
 ghost use Rattle.std.specs.Prelude.{◌+◌, ◌-◌, ◌≤◌, ◌<◌, ◌≡◌, cond, length, get_or, replicate};
 ghost use Rattle.std.proofs.Math.IntN.{sub_ℕ};
 ghost use Rattle.std.proofs.Math.Seq.{paste};
-ghost use Rattle.table.specs.Table.{obligorsIn};
+ghost use Rattle.table.specs.Table.{obligors_in};
 ghost use Rattle.table.specs.Place.{fresh, SoundPlace};
-ghost use Rattle.table.specs.Words.{placeSize, words_of, columnIn, place_in, tableIn, HoldsTable};
-ghost use Rattle.table.specs.Counts.{largest, capped, totalsOf};
+ghost use Rattle.table.specs.Words.{place_size, words_of, column_in, place_in, table_in, HoldsTable};
+ghost use Rattle.table.specs.Counts.{largest, capped, totals_of_lem};
 
 // The most grades of a table.
 pub const GRADES: usize = 40;
@@ -140,7 +140,7 @@ pub fn difference(a: u64, b: u64) -> i64
 
 // The grade count of a lent place.
 pub fn grades_of(place: &[u32]) -> usize
-    requires { length place.now ≡ placeSize }
+    requires { length place.now ≡ place_size }
     ensures { result ≡ (place_in place.now).grades }
 {
     wide(place[GRADE_COUNT])
@@ -148,7 +148,7 @@ pub fn grades_of(place: &[u32]) -> usize
 
 // Whether a lent place is loaded.
 pub fn is_loaded(place: &[u32]) -> bool
-    requires { length place.now ≡ placeSize }
+    requires { length place.now ≡ place_size }
     ensures { result ≡ (place_in place.now).loaded }
 {
     place[LOADED] == 1
@@ -167,7 +167,7 @@ pub fn wipe_words(words: &mut [u32])
 
 // Makes the words of a lent place those of an empty one.
 pub fn wipe(place: &mut [u32])
-    requires { length place.old ≡ placeSize }
+    requires { length place.old ≡ place_size }
     ensures { place.new ≡ words_of fresh }
 {
     wipe_words(place);
@@ -195,7 +195,7 @@ pub fn put_numbers(words: &mut [u32], at: usize, numbers: &[u32])
 // The column from `at` on.
 fn column_at(words: &[u32], at: usize) -> [u32; GRADES]
     requires { at + 40 ≤ length words.now }
-    ensures { result ≡ columnIn words.now at }
+    ensures { result ≡ column_in words.now at }
 {
     let mut column = [0u32; GRADES];
     let mut i: usize = 0;
@@ -223,7 +223,7 @@ impl Place {
 
     // The place that words stand for.
     pub fn of_words(words: &[u32]) -> Place
-        requires { length words.now ≡ placeSize }
+        requires { length words.now ≡ place_size }
         ensures { result ≡ place_in words.now }
     {
         let obligors = column_at(words, 0);
@@ -251,7 +251,7 @@ fn few_grades_of(place: &[u32]) -> usize
 // N of the table in a lent place alone.
 pub fn obligors_of(place: &[u32]) -> Obligors
     requires { HoldsTable place.now }
-    ensures { result.0 ≡ obligorsIn (tableIn place.now) }
+    ensures { result.0 ≡ obligors_in (table_in place.now) }
 {
     let grades = few_grades_of(place);
     let mut all = Obligors(0);
@@ -266,7 +266,7 @@ pub fn obligors_of(place: &[u32]) -> Obligors
 // The totals of the table in a lent place.
 pub fn totals_of(place: &[u32]) -> Totals
     requires { HoldsTable place.now }
-    ensures { result ≡ totalsOf (tableIn place.now) }
+    ensures { result ≡ totals_of_lem (table_in place.now) }
 {
     let mut i = grades_of(place);
     let mut sum: u32 = 0;

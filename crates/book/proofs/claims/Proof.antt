@@ -1,30 +1,30 @@
 -- The claims: `claims` has nothing to do but to show each of them.
-use Rattle.book.proofs.Accept.{accepted, sound-accepted}
-use Rattle.book.proofs.Emptiness.{empty-told, nine-means}
-use Rattle.book.proofs.Fall.{fall-told, fall-meant}
-use Rattle.book.proofs.Columns.{first-column}
+use Rattle.book.proofs.Accept.{accepted, sound_accepted}
+use Rattle.book.proofs.Emptiness.{empty_told, nine_means}
+use Rattle.book.proofs.Fall.{fall_told, fall_meant}
+use Rattle.book.proofs.Columns.{first_column}
 use Rattle.book.proofs.RoundTrip.{round_trip}
-use Rattle.book.proofs.Again.{written-again}
-use Rattle.book.proofs.Whole.{whole-read, first-told}
-use Rattle.book.proofs.WrongCut.{cut-told, cut-meant}
+use Rattle.book.proofs.Again.{written_again}
+use Rattle.book.proofs.Whole.{whole_read, first_told}
+use Rattle.book.proofs.WrongCut.{cut_told, cut_meant}
 use Rattle.book.proofs.claims.Statement.{statement}
 use Rattle.book.proofs.claims.Tie as tie
 
 returns : tie.Need-returns
 returns c = record {
-  reading-is-sound = accepted;
-  sound-tables-are-read = sound-accepted;
-  nine-means-all-empty = nine-means;
-  all-empty-is-told = empty-told;
-  falls-are-told = fall-told;
-  falls-are-meant = fall-meant;
-  first-column-is-of-its-kind = first-column;
-  written-book-reads-back = round_trip;
-  read-book-writes-back = written-again;
-  whole-books-are-read = whole-read;
-  first-fault-is-told = first-told;
-  wrong-cuts-are-told = cut-told;
-  wrong-cuts-are-meant = cut-meant;
+  reading_is_sound = accepted;
+  sound_tables_are_read = sound_accepted;
+  nine_means_all_empty = nine_means;
+  all_empty_is_told = empty_told;
+  falls_are_told = fall_told;
+  falls_are_meant = fall_meant;
+  first_column_is_of_its_kind = first_column;
+  written_book_reads_back = round_trip;
+  read_book_writes_back = written_again;
+  whole_books_are_read = whole_read;
+  first_fault_is_told = first_told;
+  wrong_cuts_are_told = cut_told;
+  wrong_cuts_are_meant = cut_meant;
 }
 
 pub claims-spec : {M : Type 1} → statement M

@@ -1,15 +1,15 @@
 -- `cheapest` meets its contract.
 use native.Mathlib.Omega.{arith}
-use Rattle.table.proofs.Words.{long-words}
+use Rattle.table.proofs.Words.{long_words}
 use Rattle.book.proofs.Checks.{none, pass, over}
 use Rattle.calls.specs.Calls.{cheapest}
 use Rattle.calls.proofs.Answered.{refuses, accepts}
-use Rattle.calls.proofs.Asked.{asked-empty, ready, asked}
+use Rattle.calls.proofs.Asked.{asked_empty, ready, asked}
 use Rattle.calls.proofs.cheapest.Statement.{statement}
 use Rattle.calls.proofs.cheapest.Tie as tie
 
 returns : tie.Need-returns
-returns c = asked-empty _ (cheapest _ _) _ _ c.before.is-loaded.ensures c.if1.true
+returns c = asked_empty _ (cheapest _ _) _ _ c.before.is-loaded.ensures c.if1.true
 
 returns-2 : tie.Need-returns-2
 returns-2 c =
@@ -38,7 +38,7 @@ pub cheapest-spec : {M : Type 1} → statement M
 cheapest-spec =
     tie.close
     (tie.spec
-    (λ c κs. long-words c.before.requires)
+    (λ c κs. long_words c.before.requires)
     returns
     returns-2
     returns-3

@@ -1,17 +1,17 @@
 -- `clear` meets its contract.
 use mathlib.Core.Path.{refl}
 use borrow.Author.Rules.{rules}
-use Rattle.calls.specs.Calls.{changeFault}
-use Rattle.calls.proofs.Asked.{empty-at, loaded_at}
+use Rattle.calls.specs.Calls.{change_fault}
+use Rattle.calls.proofs.Asked.{empty_at, loaded_at}
 use Rattle.calls.proofs.clear.Statement.{statement}
 use Rattle.calls.proofs.clear.Tie as tie
 
 returns : tie.Need-returns
-unfolding changeFault
-returns c = (empty-at _ _ c.before.place-loaded.ensures c.if1.true, refl)
+unfolding change_fault
+returns c = (empty_at _ _ c.before.place-loaded.ensures c.if1.true, refl)
 
 returns-2 : tie.Need-returns-2
-unfolding changeFault
+unfolding change_fault
 returns-2 c =
     let e = c.before.before.before.before in
     (loaded_at _ _ e.before.place-loaded.ensures e.if1.false, c.before.before.wipe-place.ensures)

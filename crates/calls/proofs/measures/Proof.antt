@@ -1,20 +1,20 @@
 -- `measures` meets its contract.
 use native.Mathlib.Omega.{arith}
 use mathlib.Core.Path.{ap}
-use Rattle.table.proofs.Words.{long-words}
+use Rattle.table.proofs.Words.{long_words}
 use Rattle.book.proofs.Checks.{none, pass, over}
-use Rattle.measures.specs.Measures.{measuresOf}
+use Rattle.measures.specs.Measures.{measures_of}
 use Rattle.calls.specs.Calls.{measures}
 use Rattle.calls.proofs.Answered.{refuses, accepts}
-use Rattle.calls.proofs.Asked.{asked-empty, ready, asked}
+use Rattle.calls.proofs.Asked.{asked_empty, ready, asked}
 use Rattle.calls.proofs.measures.Statement.{statement}
 use Rattle.calls.proofs.measures.Tie as tie
 
 returns : tie.Need-returns
-returns c = asked-empty _ measures _ _ c.before.is-loaded.ensures c.if1.true
+returns c = asked_empty _ measures _ _ c.before.is-loaded.ensures c.if1.true
 
 returns-2 : tie.Need-returns-2
-unfolding measuresOf
+unfolding measures_of
 returns-2 c =
     let m = c.before.before in
     let l = m.before.before in
@@ -23,7 +23,7 @@ returns-2 c =
     refuses 23 _ (asked measures r (over (omega arith))) (λ z. omega arith)
 
 returns-3 : tie.Need-returns-3
-unfolding measuresOf
+unfolding measures_of
 returns-3 c =
     let m = c.before.before.before.before in
     let l = m.before.before in
@@ -33,7 +33,7 @@ returns-3 c =
     refuses 24 _ (asked measures r (pass (omega arith) (over (omega arith)))) (λ z. omega arith)
 
 returns-4 : tie.Need-returns-4
-unfolding measuresOf
+unfolding measures_of
 returns-4 c =
     let m = c.before.before.before.before in
     let l = m.before.before in
@@ -46,7 +46,7 @@ pub measures-spec : {M : Type 1} → statement M
 measures-spec =
     tie.close
     (tie.spec
-    (λ c κs. long-words c.before.requires)
+    (λ c κs. long_words c.before.requires)
     returns
     (λ c κs. (ready _ c.before.before.before.requires c.before.is-loaded.ensures c.if1.false).holds)
     returns-2

@@ -1,20 +1,20 @@
 -- The claims: `claims` has nothing to do but to show each of them.
-use Rattle.cutoff.proofs.Cost.{cheapest-is, cutoff-costs, smaller-dearer, cheapest-unique}
-use Rattle.cutoff.proofs.Pooled.{pooled-costs-same}
-use Rattle.cutoff.proofs.Dominance.{break-even-decides}
+use Rattle.cutoff.proofs.Cost.{cheapest_is, cutoff_costs, smaller_dearer, cheapest_unique}
+use Rattle.cutoff.proofs.Pooled.{pooled_costs_same}
+use Rattle.cutoff.proofs.Dominance.{break_even_decides}
 use Rattle.cutoff.proofs.Settled.{settles}
 use Rattle.cutoff.proofs.claims.Statement.{statement}
 use Rattle.cutoff.proofs.claims.Tie as tie
 
 returns : tie.Need-returns
 returns c = record {
-  cheapest-is-cheapest = cheapest-is;
-  cutoff-has-the-cost = cutoff-costs;
-  no-smaller-cutoff-is-as-cheap = smaller-dearer;
-  cheapest-cost-is-unique = cheapest-unique;
-  pooled-scale-costs-the-same = pooled-costs-same;
-  break-even-prices-decide = break-even-decides;
-  verdicts-are-right = settles;
+  cheapest_is_cheapest = cheapest_is;
+  cutoff_has_the_cost = cutoff_costs;
+  no_smaller_cutoff_is_as_cheap = smaller_dearer;
+  cheapest_cost_is_unique = cheapest_unique;
+  pooled_scale_costs_the_same = pooled_costs_same;
+  break_even_prices_decide = break_even_decides;
+  verdicts_are_right = settles;
 }
 
 pub claims-spec : {M : Type 1} → statement M

@@ -1,147 +1,147 @@
 -- The order of the checks, by computation: the definitions are all that it rests on.
 use mathlib.Core.Path.{refl}
-use Rattle.table.specs.Table.{occupied, survivorsIn, defaultsIn, obligorsIn}
-use Rattle.table.specs.Place.{gradesFrom, place_of}
-use Rattle.book.specs.Bytes.{twoAt, fourAt, twoBytes, fourBytes}
-use Rattle.book.specs.Checks.{fault, firstFault}
-use Rattle.book.specs.Layout.{headChecks, raterChecks, tableChecks, tablesFaultFrom, layoutFault}
-use Rattle.book.specs.Rows.{gradeIn, gradesIn, tablesIn, rowChecks, laterChecks, laterFault, rowsFault, totalChecks, tableFault}
-use Rattle.book.specs.Reading.{readFault, tableFaults, bookFault}
-use Rattle.book.specs.Encode.{encodeGrade, encodeGrades, encodeTable, encodeTables, offsets, ends_at, encode}
-use Rattle.book.specs.Writing.{writeFault}
-use Rattle.shortlist.specs.Checks.{someChecks, equalChecks, sameChecks, shortlistFault}
-use Rattle.calls.specs.Calls.{questionFault, fillFault, changeFault, compareFault, pairChecks}
-use Rattle.calls.specs.Shares.{sharesFault, sharesChecks}
-use Rattle.events.specs.Events.{eventFault}
+use Rattle.table.specs.Table.{occupied, survivors_in, defaults_in, obligors_in}
+use Rattle.table.specs.Place.{grades_from, place_of}
+use Rattle.book.specs.Bytes.{two_at_lem, four_at_lem, two_bytes, four_bytes}
+use Rattle.book.specs.Checks.{fault, first_fault}
+use Rattle.book.specs.Layout.{head_checks, rater_checks, table_checks, tables_fault_from, layout_fault}
+use Rattle.book.specs.Rows.{grade_in, grades_in, tables_in, row_checks, later_checks, later_fault, rows_fault, total_checks, table_fault_lem}
+use Rattle.book.specs.Reading.{read_fault, table_faults, book_fault}
+use Rattle.book.specs.Encode.{encode_grade, encode_grades, encode_table, encode_tables, offsets, ends_at, encode}
+use Rattle.book.specs.Writing.{write_fault}
+use Rattle.shortlist.specs.Checks.{some_checks, equal_checks, same_checks, shortlist_fault}
+use Rattle.calls.specs.Calls.{question_fault, fill_fault, change_fault, compare_fault, pair_checks}
+use Rattle.calls.specs.Shares.{shares_fault, shares_checks}
+use Rattle.events.specs.Events.{event_fault}
 use Rattle.demands.specs.Orders.{Orders}
 use Rattle.demands.proofs.orders.Statement.{statement}
 use Rattle.demands.proofs.orders.Tie as tie
 
 rows : Orders
-unfolding occupied survivorsIn defaultsIn obligorsIn gradesFrom place_of twoAt fourAt twoBytes fourBytes fault firstFault headChecks raterChecks tableChecks tablesFaultFrom layoutFault gradeIn gradesIn tablesIn rowChecks laterChecks laterFault rowsFault totalChecks tableFault readFault tableFaults bookFault encodeGrade encodeGrades encodeTable encodeTables offsets ends_at encode writeFault someChecks equalChecks sameChecks shortlistFault questionFault fillFault changeFault compareFault pairChecks sharesFault sharesChecks eventFault
+unfolding occupied survivors_in defaults_in obligors_in grades_from place_of two_at_lem four_at_lem two_bytes four_bytes fault first_fault head_checks rater_checks table_checks tables_fault_from layout_fault grade_in grades_in tables_in row_checks later_checks later_fault rows_fault total_checks table_fault_lem read_fault table_faults book_fault encode_grade encode_grades encode_table encode_tables offsets ends_at encode write_fault some_checks equal_checks same_checks shortlist_fault question_fault fill_fault change_fault compare_fault pair_checks shares_fault shares_checks event_fault
 rows = record {
-  load-1-before-21-below = refl;
-  load-1-before-21-above = refl;
-  load-21-before-2-short = refl;
-  load-21-before-2-length = refl;
-  load-3-before-4-none-below = refl;
-  load-3-before-4-none-behind = refl;
-  load-3-before-4-many-below = refl;
-  load-3-before-4-many-behind = refl;
-  load-3-before-4-offsets-below = refl;
-  load-3-before-4-offsets-behind = refl;
-  load-4-before-31-below = refl;
-  load-4-before-31-behind = refl;
-  load-4-before-32-header = refl;
-  load-4-before-6 = refl;
-  load-4-before-7 = refl;
-  load-4-before-32-rows = refl;
-  load-4-before-33 = refl;
-  book-2-before-3-short-none = (refl, refl);
-  book-2-before-3-short-many = (refl, refl);
-  book-2-before-3-short-offsets = (refl, refl);
-  book-2-before-3-length-none = (refl, refl);
-  book-2-before-3-length-many = (refl, refl);
-  book-2-before-3-length-offsets = (refl, refl);
-  book-31-before-32 = (refl, refl);
-  book-32-before-6-none = (refl, refl);
-  book-32-before-6-many = (refl, refl);
-  book-6-before-7-none-kind = (refl, refl);
-  book-6-before-7-none-bytes = (refl, refl);
-  book-6-before-7-many-kind = (refl, refl);
-  book-6-before-7-many-bytes = (refl, refl);
-  book-7-before-32-kind = (refl, refl);
-  book-7-before-32-bytes = (refl, refl);
-  book-6-before-next-31 = (refl, refl);
-  book-7-before-next-31 = (refl, refl);
-  book-32-before-next-31 = (refl, refl);
-  book-32-before-33 = (refl, refl);
-  book-33-before-8 = (refl, refl);
-  book-33-before-10 = (refl, refl);
-  book-33-before-34 = (refl, refl);
-  book-8-before-10 = (refl, refl);
-  book-8-before-34 = (refl, refl);
-  book-10-before-next-8 = (refl, refl);
-  book-10-before-third-8 = (refl, refl);
-  book-34-before-third-8 = (refl, refl);
-  row-10-before-34 = refl;
-  book-8-before-9 = (refl, refl);
-  book-10-before-9 = (refl, refl);
-  book-34-before-9 = (refl, refl);
-  book-8-before-11 = (refl, refl);
-  book-10-before-11 = (refl, refl);
-  book-34-before-11 = (refl, refl);
-  clear-1-before-22-below = refl;
-  clear-1-before-22-above = refl;
-  pool-1-before-22-below = refl;
-  pool-1-before-22-above = refl;
-  pool-1-before-13-below = refl;
-  pool-1-before-13-above = refl;
-  cheapest-1-before-22-below = refl;
-  cheapest-1-before-22-above = refl;
-  cheapest-22-before-12-missed = refl;
-  cheapest-22-before-12-turned-away = refl;
-  brier-1-before-22-below = refl;
-  brier-1-before-22-above = refl;
-  spread-1-before-22-below = refl;
-  spread-1-before-22-above = refl;
-  measures-1-before-22-below = refl;
-  measures-1-before-22-above = refl;
-  measures-22-before-23-and-24 = refl;
-  compare-22-before-23-first = refl;
-  compare-22-before-23-second = refl;
-  compare-22-before-23-first-second = refl;
-  compare-22-before-23-second-first = refl;
-  compare-23-before-24-first-second = refl;
-  compare-23-before-24-second-first = refl;
-  compare-23-before-25-first = refl;
-  compare-23-before-25-second = refl;
-  compare-24-before-25-first-defaults = refl;
-  compare-24-before-25-second-defaults = refl;
-  compare-24-before-25-first-survivors = refl;
-  compare-24-before-25-second-survivors = refl;
-  shares-22-before-23-first = refl;
-  shares-22-before-23-second = refl;
-  shares-22-before-23-first-second = refl;
-  shares-22-before-23-second-first = refl;
-  shares-23-before-24-first-second = refl;
-  shares-23-before-24-second-first = refl;
-  shares-23-before-35-first-second = refl;
-  shares-23-before-35-second-first = refl;
-  shares-24-before-35-first = refl;
-  shares-24-before-35-second = refl;
-  shares-24-before-35-first-second = refl;
-  shares-24-before-35-second-first = refl;
-  write-22-before-13 = refl;
-  shortlist-3-before-33 = refl;
-  shortlist-3-before-31-many = refl;
-  shortlist-3-before-31-offsets = refl;
-  shortlist-9-before-next-8 = refl;
-  shortlist-11-before-next-8 = refl;
-  shortlist-9-before-23-and-24 = refl;
-  shortlist-11-before-23 = refl;
-  shortlist-9-before-23-of-an-earlier = refl;
-  shortlist-11-before-23-of-an-earlier = refl;
-  shortlist-11-before-24 = refl;
-  shortlist-23-before-24 = refl;
-  shortlist-23-before-24-of-an-earlier = refl;
-  shortlist-23-before-25 = refl;
-  shortlist-24-before-25-defaults = refl;
-  shortlist-24-before-25-survivors = refl;
-  shortlist-24-before-25-defaults-of-earlier = refl;
-  shortlist-24-before-25-survivors-of-earlier = refl;
-  shortlist-23-before-13 = refl;
-  shortlist-24-before-13 = refl;
-  shortlist-25-before-13-defaults = refl;
-  shortlist-25-before-13-survivors = refl;
-  event-1-before-22-below = (refl, refl, refl, refl);
-  event-1-before-22-above = (refl, refl, refl, refl);
-  event-22-before-36-below = (refl, refl, refl, refl);
-  event-22-before-36-above = (refl, refl, refl, refl);
-  event-36-before-37-and-38-below = (refl, refl, refl, refl);
-  event-36-before-37-and-38-above = (refl, refl, refl, refl);
-  event-36-before-37-last-below = (refl, refl, refl, refl);
-  event-36-before-37-last-above = (refl, refl, refl, refl);
+  load_1_before_21_below = refl;
+  load_1_before_21_above = refl;
+  load_21_before_2_short = refl;
+  load_21_before_2_length = refl;
+  load_3_before_4_none_below = refl;
+  load_3_before_4_none_behind = refl;
+  load_3_before_4_many_below = refl;
+  load_3_before_4_many_behind = refl;
+  load_3_before_4_offsets_below = refl;
+  load_3_before_4_offsets_behind = refl;
+  load_4_before_31_below = refl;
+  load_4_before_31_behind = refl;
+  load_4_before_32_header = refl;
+  load_4_before_6 = refl;
+  load_4_before_7 = refl;
+  load_4_before_32_rows = refl;
+  load_4_before_33 = refl;
+  book_2_before_3_short_none = (refl, refl);
+  book_2_before_3_short_many = (refl, refl);
+  book_2_before_3_short_offsets = (refl, refl);
+  book_2_before_3_length_none = (refl, refl);
+  book_2_before_3_length_many = (refl, refl);
+  book_2_before_3_length_offsets = (refl, refl);
+  book_31_before_32 = (refl, refl);
+  book_32_before_6_none = (refl, refl);
+  book_32_before_6_many = (refl, refl);
+  book_6_before_7_none_kind = (refl, refl);
+  book_6_before_7_none_bytes = (refl, refl);
+  book_6_before_7_many_kind = (refl, refl);
+  book_6_before_7_many_bytes = (refl, refl);
+  book_7_before_32_kind = (refl, refl);
+  book_7_before_32_bytes = (refl, refl);
+  book_6_before_next_31 = (refl, refl);
+  book_7_before_next_31 = (refl, refl);
+  book_32_before_next_31 = (refl, refl);
+  book_32_before_33 = (refl, refl);
+  book_33_before_8 = (refl, refl);
+  book_33_before_10 = (refl, refl);
+  book_33_before_34 = (refl, refl);
+  book_8_before_10 = (refl, refl);
+  book_8_before_34 = (refl, refl);
+  book_10_before_next_8 = (refl, refl);
+  book_10_before_third_8 = (refl, refl);
+  book_34_before_third_8 = (refl, refl);
+  row_10_before_34 = refl;
+  book_8_before_9 = (refl, refl);
+  book_10_before_9 = (refl, refl);
+  book_34_before_9 = (refl, refl);
+  book_8_before_11 = (refl, refl);
+  book_10_before_11 = (refl, refl);
+  book_34_before_11 = (refl, refl);
+  clear_1_before_22_below = refl;
+  clear_1_before_22_above = refl;
+  pool_1_before_22_below = refl;
+  pool_1_before_22_above = refl;
+  pool_1_before_13_below = refl;
+  pool_1_before_13_above = refl;
+  cheapest_1_before_22_below = refl;
+  cheapest_1_before_22_above = refl;
+  cheapest_22_before_12_missed = refl;
+  cheapest_22_before_12_turned_away = refl;
+  brier_1_before_22_below = refl;
+  brier_1_before_22_above = refl;
+  spread_1_before_22_below = refl;
+  spread_1_before_22_above = refl;
+  measures_1_before_22_below = refl;
+  measures_1_before_22_above = refl;
+  measures_22_before_23_and_24 = refl;
+  compare_22_before_23_first = refl;
+  compare_22_before_23_second = refl;
+  compare_22_before_23_first_second = refl;
+  compare_22_before_23_second_first = refl;
+  compare_23_before_24_first_second = refl;
+  compare_23_before_24_second_first = refl;
+  compare_23_before_25_first = refl;
+  compare_23_before_25_second = refl;
+  compare_24_before_25_first_defaults = refl;
+  compare_24_before_25_second_defaults = refl;
+  compare_24_before_25_first_survivors = refl;
+  compare_24_before_25_second_survivors = refl;
+  shares_22_before_23_first = refl;
+  shares_22_before_23_second = refl;
+  shares_22_before_23_first_second = refl;
+  shares_22_before_23_second_first = refl;
+  shares_23_before_24_first_second = refl;
+  shares_23_before_24_second_first = refl;
+  shares_23_before_35_first_second = refl;
+  shares_23_before_35_second_first = refl;
+  shares_24_before_35_first = refl;
+  shares_24_before_35_second = refl;
+  shares_24_before_35_first_second = refl;
+  shares_24_before_35_second_first = refl;
+  write_22_before_13 = refl;
+  shortlist_3_before_33 = refl;
+  shortlist_3_before_31_many = refl;
+  shortlist_3_before_31_offsets = refl;
+  shortlist_9_before_next_8 = refl;
+  shortlist_11_before_next_8 = refl;
+  shortlist_9_before_23_and_24 = refl;
+  shortlist_11_before_23 = refl;
+  shortlist_9_before_23_of_an_earlier = refl;
+  shortlist_11_before_23_of_an_earlier = refl;
+  shortlist_11_before_24 = refl;
+  shortlist_23_before_24 = refl;
+  shortlist_23_before_24_of_an_earlier = refl;
+  shortlist_23_before_25 = refl;
+  shortlist_24_before_25_defaults = refl;
+  shortlist_24_before_25_survivors = refl;
+  shortlist_24_before_25_defaults_of_earlier = refl;
+  shortlist_24_before_25_survivors_of_earlier = refl;
+  shortlist_23_before_13 = refl;
+  shortlist_24_before_13 = refl;
+  shortlist_25_before_13_defaults = refl;
+  shortlist_25_before_13_survivors = refl;
+  event_1_before_22_below = (refl, refl, refl, refl);
+  event_1_before_22_above = (refl, refl, refl, refl);
+  event_22_before_36_below = (refl, refl, refl, refl);
+  event_22_before_36_above = (refl, refl, refl, refl);
+  event_36_before_37_and_38_below = (refl, refl, refl, refl);
+  event_36_before_37_and_38_above = (refl, refl, refl, refl);
+  event_36_before_37_last_below = (refl, refl, refl, refl);
+  event_36_before_37_last_above = (refl, refl, refl, refl);
 }
 
 pub orders-spec : {M : Type 1} → statement M

@@ -6,14 +6,14 @@ use Rattle.cutoff.specs.Verdict.{FirstDearer, SecondDearer}
 use Rattle.cutoff.specs.declared.Price.{Price}
 use Rattle.cutoff.specs.declared.Verdict.{Verdict}
 use Rattle.cutoff.specs.declared.Verdict.TheVariants.{Equal, First, Second, Crossing}
-use Rattle.desk_c.proofs.Images.{desk-back}
-use Rattle.desk_c.specs.Numbers.{verdictNumbers}
+use Rattle.desk_c.proofs.Images.{desk_back}
+use Rattle.desk_c.specs.Numbers.{verdict_numbers}
 use Rattle.desk_c.proofs.claims.Statement.{statement}
 use Rattle.desk_c.proofs.claims.Tie as tie
 
 told : (v : Verdict) (p : Price)
-    → (FirstDearer v p → take 2 (drop 1 (verdictNumbers v)) ≡ p.u ∷ p.v ∷ [])
-    × (SecondDearer v p → drop 3 (verdictNumbers v) ≡ p.u ∷ p.v ∷ [])
+    → (FirstDearer v p → take 2 (drop 1 (verdict_numbers v)) ≡ p.u ∷ p.v ∷ [])
+    × (SecondDearer v p → drop 3 (verdict_numbers v) ≡ p.u ∷ p.v ∷ [])
 told Equal p = (λ h. absurd h, λ h. absurd h)
 told (First q) p = (λ h. absurd h, λ e. rw e refl)
 told (Second q) p = (λ e. rw e refl, λ h. absurd h)
@@ -21,8 +21,8 @@ told (Crossing q r) p = (λ e. rw e refl, λ e. rw e refl)
 
 returns : tie.Need-returns
 returns c = record {
-  images-read-back = desk-back;
-  pairs-are-told-apart = told;
+  images_read_back = desk_back;
+  pairs_are_told_apart = told;
 }
 
 pub claims-spec : {M : Type 1} → statement M

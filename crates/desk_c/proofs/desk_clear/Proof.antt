@@ -6,8 +6,8 @@ use Rattle.calls.specs.Calls.{clear}
 use Rattle.calls.proofs.Answered.{left_alone}
 use Rattle.desk.proofs.Number.{there, missing}
 use Rattle.desk_c.specs.Image.{image_of}
-use Rattle.desk_c.proofs.Images.{image-length}
-use Rattle.desk_c.proofs.Changed.{image-number, image-changed}
+use Rattle.desk_c.proofs.Images.{image_length}
+use Rattle.desk_c.proofs.Changed.{image_number, image_changed}
 use Rattle.desk_c.proofs.desk_clear.Statement.{statement}
 use Rattle.desk_c.proofs.desk_clear.Tie as tie
 
@@ -24,8 +24,8 @@ returns-2 c =
     let start = c.before.start_of_lem.ensures.0 in
     let here = there a.args.place _ l.before.is-place.ensures l.if1.false in
     let e = c.clear_at.ensures in (
-      image-number a.requires a.args.place _ start here clear e.0,
-      image-changed a.requires a.args.place _ start here clear e.0 e.1,
+      image_number a.requires a.args.place _ start here clear e.0,
+      image_changed a.requires a.args.place _ start here clear e.0 e.1,
     )
 
 pub desk-clear-spec : {M : Type 1} → statement M
@@ -35,5 +35,5 @@ desk-clear-spec =
     (λ c κs. search rules)
     returns
     (λ c κs. there _ _ c.before.before.is-place.ensures c.before.if1.false)
-    (λ c κs. omega (arith, c.start_of_lem.ensures.1, image-length c.before.before.before.before.requires))
+    (λ c κs. omega (arith, c.start_of_lem.ensures.1, image_length c.before.before.before.before.requires))
     returns-2)

@@ -1,12 +1,12 @@
 -- `desk_compare` meets its contract.
 use mathlib.Core.Path.{refl, ◌∙◌}
 use borrow.Author.Rules.{rules}
-use Rattle.calls.specs.Answers.{compareSays}
+use Rattle.calls.specs.Answers.{compare_says}
 use Rattle.calls.specs.Calls.{Compared}
-use Rattle.desk.proofs.Asked.{both-places, of-both}
+use Rattle.desk.proofs.Asked.{both_places, of_both}
 use Rattle.desk_c.specs.Numbers.{VerdictOn}
 use Rattle.desk_c.proofs.Images.{words-of}
-use Rattle.desk_c.proofs.Answered.{left-verdict}
+use Rattle.desk_c.proofs.Answered.{left_verdict}
 use Rattle.desk_c.proofs.desk_compare.Statement.{statement}
 use Rattle.desk_c.proofs.desk_compare.Tie as tie
 
@@ -17,7 +17,7 @@ start c = c.before.before.before.before
 compare-requires : tie.Need-compare-requires
 compare-requires c κs =
     let i = (start c).requires in
-    both-places _ i.sound (c.before.before.words-at.ensures ∙ words-of i 1 0 refl) (c.words-at2.ensures ∙ words-of i 2 242 refl)
+    both_places _ i.sound (c.before.before.words-at.ensures ∙ words-of i 1 0 refl) (c.words-at2.ensures ∙ words-of i 2 242 refl)
 
 returns : tie.Need-returns
 returns c =
@@ -25,10 +25,10 @@ returns c =
     let k = a.before in
     let i = (start k).requires in
     let w = (start k).args.desk.now in
-    let r = compareSays a.compare.result in (
+    let r = compare_says a.compare.result in (
       i.exact,
-      left-verdict (start k).args.answer.now (VerdictOn w) r
-          (of-both _ i.sound (k.before.before.words-at.ensures ∙ words-of i 1 0 refl) (k.words-at2.ensures ∙ words-of i 2 242 refl)
+      left_verdict (start k).args.answer.now (VerdictOn w) r
+          (of_both _ i.sound (k.before.before.words-at.ensures ∙ words-of i 1 0 refl) (k.words-at2.ensures ∙ words-of i 2 242 refl)
           (λ p q. Compared p q r) a.compare.ensures)
           c.put-verdict.ensures.0 c.put-verdict.ensures.1,
     )

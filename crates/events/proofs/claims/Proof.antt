@@ -1,5 +1,5 @@
 -- What is claimed of events: `claims` has nothing to do but to show it.
-use Rattle.events.proofs.Tables.{one-firm, announced-kept, others-kept, length-after, event-sound}
+use Rattle.events.proofs.Tables.{one_firm, announced_kept, others_kept, length-after, event_sound}
 use Rattle.events.proofs.claims.Statement.{statement}
 use Rattle.events.proofs.claims.Tie as tie
 
@@ -8,9 +8,9 @@ claims-spec =
     tie.close
     (tie.spec
     (λ c. record {
-      events-move-one-firm = one-firm;
-      announced-rates-are-kept = announced-kept;
-      other-grades-are-kept = others-kept;
-      grades-are-kept = length-after;
-      events-keep-tables-sound = event-sound;
+      events_move_one_firm = one_firm;
+      announced_rates_are_kept = announced_kept;
+      other_grades_are_kept = others_kept;
+      grades_are_kept = length-after;
+      events_keep_tables_sound = event_sound;
     }))

@@ -6,16 +6,16 @@ use lib.IntN.{◌-ℤ◌, sub_ℕ}
 use mir.Syntax.{w64}
 use mir.Val.{to_z}
 use mir.ValLaws.{to_z_pos, to_z-of_z}
-use Rattle.table.proofs.Signed.{pos-pos}
-use Rattle.measures.proofs.Signed.{difference-fits}
+use Rattle.table.proofs.Signed.{pos_pos}
+use Rattle.measures.proofs.Signed.{difference_fits}
 use Rattle.measures.proofs.difference.Statement.{statement}
 use Rattle.measures.proofs.difference.Tie as tie
 
 is : (c : tie.Start) → to_z w64 c.args.a -ℤ to_z w64 c.args.b ≡ sub_ℕ c.args.a c.args.b
-is c = rw (to_z_pos w64 c.args.a (omega arith), to_z_pos w64 c.args.b (omega arith)) (pos-pos c.args.a c.args.b)
+is c = rw (to_z_pos w64 c.args.a (omega arith), to_z_pos w64 c.args.b (omega arith)) (pos_pos c.args.a c.args.b)
 
 sub-result : tie.Need-overflow-sub-result
-sub-result c = rw (is c) (difference-fits c.requires.0 c.requires.1)
+sub-result c = rw (is c) (difference_fits c.requires.0 c.requires.1)
 
 returns : tie.Need-returns
 returns c = to_z-of_z w64 _ (sub-result c) ∙ is c

@@ -9,74 +9,74 @@ use mir.Syntax.{w64}
 use mir.Val.{SFits, of_z}
 use mir.ValLaws.{to_z-of_z}
 use Rattle.table.specs.declared.Obligors.{Obligors}
-use Rattle.table.specs.Table.{Table, defaultsIn, survivorsIn, obligorsIn}
-use Rattle.table.specs.Words.{tableIn}
+use Rattle.table.specs.Table.{Table, defaults_in, survivors_in, obligors_in}
+use Rattle.table.specs.Words.{table_in}
 use Rattle.table.specs.Counts.{capped}
-use Rattle.table.proofs.Arithmetic.{counts-le}
-use Rattle.table.proofs.Suffix.{Small, sound-small, few-counts}
+use Rattle.table.proofs.Arithmetic.{counts_le}
+use Rattle.table.proofs.Suffix.{Small, sound_small, few_counts}
 use Rattle.measures.specs.declared.PairCounts.{PairCounts}
 use Rattle.measures.specs.declared.FarthestCutoff.{FarthestCutoff}
 use Rattle.measures.specs.Pairs.{concordant, discordant, tied}
-use Rattle.measures.specs.Measures.{pairs, measuresOf}
-use Rattle.measures.specs.Private.{pairCountsOf, farthestOf}
-use Rattle.measures.proofs.Pairs.{every-pair, few-pairs}
-use Rattle.measures.proofs.Signed.{difference-fits}
+use Rattle.measures.specs.Measures.{pairs, measures_of}
+use Rattle.measures.specs.Private.{pair_counts_of, farthest_of}
+use Rattle.measures.proofs.Pairs.{every_pair, few_pairs}
+use Rattle.measures.proofs.Signed.{difference_fits}
 use Rattle.measures.proofs.measure.Statement.{statement}
 use Rattle.measures.proofs.measure.Tie as tie
 
 -- What is known of the counts m, of a, D S, and of b, D N.
 record Known (t : Table) (m : PairCounts) (a b : ℕ) : Type 0 where
-  pub counts : m ≡ pairCountsOf t
-  pub of-a : a ≡ pairs t
-  pub of-b : b ≡ defaultsIn t * obligorsIn t
+  pub counts : m ≡ pair_counts_of t
+  pub of_a : a ≡ pairs t
+  pub of_b : b ≡ defaults_in t * obligors_in t
   pub all-concordant : m.concordant ≡ concordant t
   pub all-discordant : m.discordant ≡ discordant t
-  pub few-concordant : m.concordant ≤ 1_000_000_000_000
-  pub few-discordant : m.discordant ≤ 1_000_000_000_000
+  pub few_concordant : m.concordant ≤ 1_000_000_000_000
+  pub few_discordant : m.discordant ≤ 1_000_000_000_000
   pub every : concordant t + discordant t + tied t ≡ pairs t
-  pub within : pairs t ≤ defaultsIn t * obligorsIn t
-  pub few : defaultsIn t * obligorsIn t ≤ 1_000_000_000_000
+  pub within : pairs t ≤ defaults_in t * obligors_in t
+  pub few : defaults_in t * obligors_in t ≤ 1_000_000_000_000
 
-known : {t : Table} {m : PairCounts} {n : Obligors} {a b : ℕ} → Small t → m ≡ pairCountsOf t
+known : {t : Table} {m : PairCounts} {n : Obligors} {a b : ℕ} → Small t → m ≡ pair_counts_of t
     → n.0 ≡ capped (m.survivors.0 + m.defaults) → a ≡ m.defaults * m.survivors.0 → b ≡ m.defaults * n.0 → Known t m a b
-unfolding pairCountsOf
+unfolding pair_counts_of
 known {t} {m} {n} {a} {b} small e ofN ofA ofB =
-    let s : survivorsIn t ≤ obligorsIn t = omega arith in
+    let s : survivors_in t ≤ obligors_in t = omega arith in
     let c : m.concordant ≡ concordant t = rw e in
     let x : m.discordant ≡ discordant t = rw e in
-    let all : n.0 ≡ obligorsIn t = omega (arith, rw e at ofN) in
+    let all : n.0 ≡ obligors_in t = omega (arith, rw e at ofN) in
     record {
       counts = e;
-      of-a = rw e at ofA;
-      of-b = rw (e, all) at ofB;
+      of_a = rw e at ofA;
+      of_b = rw (e, all) at ofB;
       all-concordant = c;
       all-discordant = x;
-      few-concordant = omega (arith, few-pairs small);
-      few-discordant = omega (arith, few-pairs small);
-      every = every-pair t;
-      within = mul-le-mul_left (defaultsIn t) s;
-      few = counts-le (few-counts small).0 small.obligors;
+      few_concordant = omega (arith, few_pairs small);
+      few_discordant = omega (arith, few_pairs small);
+      every = every_pair t;
+      within = mul-le-mul_left (defaults_in t) s;
+      few = counts_le (few_counts small).0 small.obligors;
     }
 
-totals : (t : Table) {m : PairCounts} → m ≡ pairCountsOf t → (m.defaults ≡ defaultsIn t) × (m.survivors.0 ≡ survivorsIn t)
-unfolding pairCountsOf
+totals : (t : Table) {m : PairCounts} → m ≡ pair_counts_of t → (m.defaults ≡ defaults_in t) × (m.survivors.0 ≡ survivors_in t)
+unfolding pair_counts_of
 totals t e = (ap (λ m. m.defaults) e, ap (λ m. m.survivors.0) e)
 
 farthest-requires : tie.Need-farthest-requires
 farthest-requires c κs =
     let b = c.before.before.before in
-    (b.requires, totals (tableIn b.args.place.now) c.before.count-pairs.ensures)
+    (b.requires, totals (table_in b.args.place.now) c.before.count-pairs.ensures)
 
 at : (c : tie.After-profile-of) →
     let a = c.before.before.before.before.before.before.before.args in
-    Known (tableIn a.place.now) c.before.before.before.before.before.count-pairs.result
+    Known (table_in a.place.now) c.before.before.before.before.before.count-pairs.result
     c.before.before.pairs_of.result c.profile-of.result
 at c =
-    known (sound-small c.before.before.before.before.before.before.before.requires.sound)
+    known (sound_small c.before.before.before.before.before.before.before.requires.sound)
     c.before.before.before.before.before.count-pairs.ensures
     c.before.with-defaults.ensures c.before.before.pairs_of.ensures c.profile-of.ensures
 
-measures-are : {t : Table} {m : PairCounts} {a b : ℕ} → Known t m a b → (h : FarthestCutoff) → h ≡ farthestOf t
+measures_are : {t : Table} {m : PairCounts} {a b : ℕ} → Known t m a b → (h : FarthestCutoff) → h ≡ farthest_of t
     → (z w : ℤ) → z ≡ sub_ℕ m.concordant m.discordant → w ≡ h.height
     → record {
       defaults = m.defaults;
@@ -86,20 +86,20 @@ measures-are : {t : Table} {m : PairCounts} {a b : ℕ} → Known t m a b → (h
       cap = record { numerator = b + m.concordant - m.discordant; denominator = 2 * b };
       pietra = record { numerator = w; denominator = a };
       cutoff = h.cutoff;
-    } ≡ measuresOf t
-unfolding measuresOf pairCountsOf farthestOf
-measures-are {t} k h e z w of_z of_w =
+    } ≡ measures_of t
+unfolding measures_of pair_counts_of farthest_of
+measures_are {t} k h e z w of_z of_w =
     let roc : pairs t + concordant t - discordant t ≡ 2 * concordant t + tied t = omega arith in
-    rw (of_w, of_z, e, k.counts, k.of-a, k.of-b, roc)
+    rw (of_w, of_z, e, k.counts, k.of_a, k.of_b, roc)
 
 returns : tie.Need-returns
 returns c =
     let d = c.before.before.before.before.before in
     let top = d.before.before.before.before.farthest in
     let k = at d.before in
-    let z : SFits w64 d.difference.result = rw d.difference.ensures (difference-fits k.few-concordant k.few-discordant) in
+    let z : SFits w64 d.difference.result = rw d.difference.ensures (difference_fits k.few_concordant k.few_discordant) in
     let w : SFits w64 top.result.height = record { sfits = c.struct_told.given.1.0.1 } in
-    measures-are k _ top.ensures _ _ (to_z-of_z w64 _ z ∙ d.difference.ensures) (to_z-of_z w64 _ w)
+    measures_are k _ top.ensures _ _ (to_z-of_z w64 _ z ∙ d.difference.ensures) (to_z-of_z w64 _ w)
 
 pub measure-spec : {M : Type 1} → statement M
 measure-spec =

@@ -4,11 +4,11 @@ use mathlib.Core.Path.{◌≡◌, ap, ◌∙◌}
 use mathlib.Core.List.{List}
 use native.Mathlib.Omega.{arith}
 use lib.ListN.{length}
-use Rattle.table.specs.Words.{tableIn}
-use Rattle.pooling.specs.Private.{blockWords, runsIn}
-use Rattle.pooling.proofs.Reading.{pooled-back}
-use Rattle.pooled_place.specs.PooledPlace.{noList}
-use Rattle.pooled_place.proofs.Words.{length-list, grades-in, held-length, held-list}
+use Rattle.table.specs.Words.{table_in}
+use Rattle.pooling.specs.Private.{block_words, runs_in}
+use Rattle.pooling.proofs.Reading.{pooled_back}
+use Rattle.pooled_place.specs.PooledPlace.{no_list}
+use Rattle.pooled_place.proofs.Words.{length_list, grades-in, held-length, held_list}
 use Rattle.pooled_place.proofs.listed_blocks.Statement.{statement}
 use Rattle.pooled_place.proofs.listed_blocks.Tie as tie
 
@@ -19,7 +19,7 @@ module _ (c : tie.After-place-grades) where
   abbrev words : List ℕ
   words = begun.args.words.now
 
-  count : c.place-grades.result ≡ length (tableIn words)
+  count : c.place-grades.result ≡ length (table_in words)
   count = grades-in words c.place-grades.ensures
 
 blocks-in-requires : tie.Need-blocks-in-requires
@@ -27,7 +27,7 @@ blocks-in-requires c κs =
     let a = c.before in
     let n = count a in
     let h = (begun a).requires.0 in
-    let l = ap length a.before.list-of.ensures ∙ length-list (words a) (held-length h) in
+    let l = ap length a.before.list-of.ensures ∙ length_list (words a) (held-length h) in
     (omega (arith, n, h.sound.some), omega (arith, n, h.sound.few), omega (arith, n, h.sound.few, l), (begun a).requires.1)
 
 returns : tie.Need-returns
@@ -35,9 +35,9 @@ returns c =
     let a = c.before.before in
     let h = (begun a).requires.0 in
     let f = c.blocks-in.ensures in
-    let list = a.before.list-of.ensures ∙ held-list h in
-    let e = ap (λ (n : ℕ). runsIn n a.before.list-of.result.now) (count a) ∙ ap (λ (l : List ℕ). runsIn (length (tableIn (words a))) l) list ∙ pooled-back (tableIn (words a)) h.sound noList in
-    ((f.0.0 ∙ ap blockWords e, f.0.1), f.1)
+    let list = a.before.list-of.ensures ∙ held_list h in
+    let e = ap (λ (n : ℕ). runs_in n a.before.list-of.result.now) (count a) ∙ ap (λ (l : List ℕ). runs_in (length (table_in (words a))) l) list ∙ pooled_back (table_in (words a)) h.sound no_list in
+    ((f.0.0 ∙ ap block_words e, f.0.1), f.1)
 
 pub listed-blocks-spec : {M : Type 1} → statement M
 listed-blocks-spec =

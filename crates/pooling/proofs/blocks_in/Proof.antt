@@ -7,8 +7,8 @@ use native.Mathlib.Omega.{arith}
 use borrow.Author.Rules.{rules}
 use lib.ListN.{length, get_or, drop, length-drop, drop_of_length-le}
 use Rattle.pooling.specs.Pool.{Block}
-use Rattle.pooling.specs.Private.{block, blockWords, shows, grown, runsIn}
-use Rattle.pooling.proofs.Reading.{runs-from, runs-whole}
+use Rattle.pooling.specs.Private.{block, block_words, shows, grown, runs_in}
+use Rattle.pooling.proofs.Reading.{runs_from, runs_whole}
 use Rattle.pooling.proofs.blocks_in.Statement.{statement}
 use Rattle.pooling.proofs.blocks_in.Tie as tie
 
@@ -17,9 +17,9 @@ record Passed (numbers : List ℕ) (grades : ℕ) (items : List ℕ) (i : ℕ) (
   pub index : i ≡ 3 * left
   pub inside : left < grades
   pub stored : List Block
-  pub words : drop at items ≡ blockWords stored
+  pub words : drop at items ≡ block_words stored
   pub full : length items ≡ 120
-  pub runs : runsIn (grades - left) (drop (3 * left) numbers) ≡ x ∷ stored
+  pub runs : runs_in (grades - left) (drop (3 * left) numbers) ≡ x ∷ stored
   pub high : 3 * (left + 1) ≤ at
   pub low : at ≤ 120
   pub few : x.grades ≤ grades - left
@@ -33,7 +33,7 @@ decreases-loop numbers grades items₀ i₀ x₀ at₀ items i x at = i
 -- The worst grade.
 begin : (numbers : List ℕ) (grades : ℕ) (items : List ℕ) (n : ℕ) → n ≡ get_or numbers (3 * grades - 3 + 1) 0 → 1 ≤ grades → grades ≤ 40
     → length items ≡ 120 → Passed numbers grades items (3 * grades - 3) (block 1 n (get_or numbers (3 * grades - 3) 0)) 120
-unfolding runsIn grown blockWords
+unfolding runs_in grown block_words
 begin numbers grades items n of some few full =
     let one : grades - (grades - 1) ≡ 1 = omega arith in
     let i : 3 * grades - 3 ≡ 3 * (grades - 1) = omega arith in
@@ -44,7 +44,7 @@ begin numbers grades items n of some few full =
       stored = [];
       words = drop_of_length-le items {i = 120} (omega arith);
       full = full;
-      runs = rw (of, one, i) (runs-from numbers (grades - 1) 0);
+      runs = rw (of, one, i) (runs_from numbers (grades - 1) 0);
       high = omega arith;
       low = omega arith;
       few = omega arith;
@@ -60,14 +60,14 @@ stored-full items after at x full high low put =
 -- One better grade: of the block in hand, or of a new one.
 module _ (numbers : List ℕ) (grades : ℕ) (items : List ℕ) (i : ℕ) (x : Block) (at : ℕ) (p : Passed numbers grades items i x at) (pos : 0 < i)
     (n : ℕ) (of : n ≡ get_or numbers (i - 3 + 1) 0) where
-  next : runsIn (grades - (p.left - 1)) (drop (3 * (p.left - 1)) numbers) ≡ grown (get_or numbers (i - 3) 0) n (x ∷ p.stored)
+  next : runs_in (grades - (p.left - 1)) (drop (3 * (p.left - 1)) numbers) ≡ grown (get_or numbers (i - 3) 0) n (x ∷ p.stored)
   next =
       let k = p.left - 1 in
       let some : 0 < p.left = omega (arith, p.index) in
       let up : k + 1 ≡ p.left = omega arith in
       let m : grades - k ≡ suc (grades - p.left) = omega (arith, p.inside) in
       let j : i - 3 ≡ 3 * k = omega (arith, p.index) in
-      rw (of, m, j, ← p.runs) (rw up at (runs-from numbers k (grades - p.left)))
+      rw (of, m, j, ← p.runs) (rw up at (runs_from numbers k (grades - p.left)))
 
   taken : shows x (get_or numbers (i - 3) 0) n ≡ true
       → Passed numbers grades items (i - 3) (block (x.grades + 1) x.obligors.0 x.defaults) at
@@ -89,7 +89,7 @@ module _ (numbers : List ℕ) (grades : ℕ) (items : List ℕ) (i : ℕ) (x : B
   begun : shows x (get_or numbers (i - 3) 0) n ≡ false → (after : List ℕ)
       → drop (at - 3) after ≡ x.grades ∷ x.obligors.0 ∷ x.defaults ∷ drop (at - 3 + 3) items
       → Passed numbers grades after (i - 3) (block 1 n (get_or numbers (i - 3) 0)) (at - 3)
-  unfolding grown blockWords
+  unfolding grown block_words
   begun e after put =
       let back : at - 3 + 3 ≡ at = omega (arith, p.high) in
       record {
@@ -129,7 +129,7 @@ loop-again-2 c =
     begun _ _ _ _ _ _ t.before.loop.invariant t.loop-test.true _ s.before.obligors-at2.ensures (sym s.shows.ensures ∙ e.if1.false) _ c.store-block.ensures
 
 returns : tie.Need-returns invariant-loop decreases-loop
-unfolding blockWords
+unfolding block_words
 returns c =
     let l = c.before.before.before in
     let p = l.loop.invariant in
@@ -137,7 +137,7 @@ returns c =
     let back : l.loop.at - 3 + 3 ≡ l.loop.at = omega (arith, p.high) in
     let put = c.store-block2.ensures in
     let numbers = (args l).args.numbers.now in
-    let all : runsIn (args l).args.grades numbers ≡ l.loop.x ∷ p.stored = sym (runs-whole numbers (args l).args.grades p.left none) ∙ p.runs in
+    let all : runs_in (args l).args.grades numbers ≡ l.loop.x ∷ p.stored = sym (runs_whole numbers (args l).args.grades p.left none) ∙ p.runs in
     ((rw all (rw (back, p.words) at put), omega (arith, p.high, p.low)), stored-full l.loop.items _ l.loop.at l.loop.x p.full (omega (arith, p.high)) p.low put)
 
 pub blocks-in-spec : {M : Type 1} → statement M

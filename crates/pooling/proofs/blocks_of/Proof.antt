@@ -5,18 +5,18 @@ use mathlib.Core.Path.{◌≡◌, refl, ap, ◌∙◌}
 use mathlib.Core.List.{List}
 use native.Mathlib.Omega.{arith}
 use lib.ListN.{length, get_or, set, drop, drop_of_length-le, length-set}
-use Rattle.table.specs.Table.{Table, Counted, defaultsIn, obligorsIn}
-use Rattle.table.specs.Place.{gradeAt}
-use Rattle.table.specs.Words.{place_in, tableIn, HoldsTable}
+use Rattle.table.specs.Table.{Table, Counted, defaults_in, obligors_in}
+use Rattle.table.specs.Place.{grade_at}
+use Rattle.table.specs.Words.{place_in, table_in, HoldsTable}
 use Rattle.table.specs.declared.Place.{Place}
-use Rattle.table.proofs.Occupied.{is-occupied, is-empty}
-use Rattle.table.proofs.Suffix.{suffix, suffix-all, suffix-end, every-suffix, small}
-use Rattle.table.proofs.Words.{Turn, turn, few-in}
+use Rattle.table.proofs.Occupied.{is-occupied, is_empty}
+use Rattle.table.proofs.Suffix.{suffix, suffix_all, suffix_end, every_suffix, small}
+use Rattle.table.proofs.Words.{Turn, turn, few_in}
 use Rattle.pooling.specs.Pool.{Block, join, front}
-use Rattle.pooling.specs.Private.{block, waiting, behindWaiting, spanning, Fitting, sum_of, blockWords, blocksIn}
+use Rattle.pooling.specs.Private.{block, waiting, behind_waiting, spanning, Fitting, sum_of, block_words, blocks_in_lem}
 use Rattle.pooling.proofs.Scale.{front_length}
-use Rattle.pooling.proofs.Spanning.{Sums, behind-sums, behind-some}
-use Rattle.pooling.proofs.Words.{blocks-back, first, count-words, words-lengthened}
+use Rattle.pooling.proofs.Spanning.{Sums, behind_sums, behind_some}
+use Rattle.pooling.proofs.Words.{blocks_back, first, count_words, words_lengthened}
 use Rattle.pooling.proofs.blocks_of.Statement.{statement}
 use Rattle.pooling.proofs.blocks_of.Tie as tie
 
@@ -26,7 +26,7 @@ record Climbed (p : Place) (items : List ℕ) (i grades at : ℕ) : Type 0 where
   pub short : at ≤ 120
   pub long : length items ≡ 120
   pub waits : grades ≡ waiting (suffix p i) + 1
-  pub stored : drop at items ≡ blockWords (behindWaiting (suffix p i))
+  pub stored : drop at items ≡ block_words (behind_waiting (suffix p i))
 
 abbrev invariant-loop : tie.invariant-loop
 invariant-loop place items₀ i₀ grades₀ at₀ items i grades at = Climbed (place_in place) items i grades at
@@ -39,14 +39,14 @@ module _ {w items : List ℕ} {i grades at : ℕ} (holds : HoldsTable w) (inv : 
   abbrev p : Place
   p = place_in w
 
-  sums : Sums (suffix p i) (waiting (suffix p i)) (behindWaiting (suffix p i))
-  sums = behind-sums (suffix p i) (every-suffix Counted p i inv.inside holds.sound.counted)
+  sums : Sums (suffix p i) (waiting (suffix p i)) (behind_waiting (suffix p i))
+  sums = behind_sums (suffix p i) (every_suffix Counted p i inv.inside holds.sound.counted)
 
-  few-wait : grades ≤ 41
-  few-wait = omega (arith, inv.waits, sums.grades, (small p i holds.sound inv.inside).grades)
+  few_wait : grades ≤ 41
+  few_wait = omega (arith, inv.waits, sums.grades, (small p i holds.sound inv.inside).grades)
 
-  back : blocksIn (drop at items) ≡ behindWaiting (suffix p i)
-  back = ap blocksIn inv.stored ∙ blocks-back (behindWaiting (suffix p i))
+  back : blocks_in_lem (drop at items) ≡ behind_waiting (suffix p i)
+  back = ap blocks_in_lem inv.stored ∙ blocks_back (behind_waiting (suffix p i))
 
   -- The next grade, and its obligors.
   module _ (pos : 0 < i) (n : ℕ) (its : n ≡ get_or w (i - 1) 0) where
@@ -55,9 +55,9 @@ module _ {w items : List ℕ} {i grades at : ℕ} (holds : HoldsTable w) (inv : 
 
     -- It is empty, and waits.
     empty : n ≡ 0 → Climbed p items (i - 1) (grades + 1) at
-    unfolding waiting behindWaiting
+    unfolding waiting behind_waiting
     empty e =
-        let none = is-empty (gradeAt p (i - 1)) (omega (arith, here.obligors)) in
+        let none = is_empty (grade_at p (i - 1)) (omega (arith, here.obligors)) in
         record {
           inside = omega (arith, inv.inside);
           room = omega (arith, inv.room);
@@ -72,72 +72,72 @@ module _ {w items : List ℕ} {i grades at : ℕ} (holds : HoldsTable w) (inv : 
       abbrev next : Block
       next = block grades n (get_or w (40 + (i - 1)) 0)
 
-      fits : Fitting (join next (sum_of (blocksIn (drop at items))))
-      unfolding obligorsIn defaultsIn
+      fits : Fitting (join next (sum_of (blocks_in_lem (drop at items))))
+      unfolding obligors_in defaults_in
       fits =
           let s = sums in
           let t = here.here in
           let k = (small p i holds.sound inv.inside).grades in
           rw back (omega (arith, inv.waits), omega (arith, here.obligors), omega (arith, here.defaults))
 
-      occupied : (new : List ℕ) (r : ℕ) → drop r new ≡ blockWords (front next (blocksIn (drop at items))) → length new ≡ 120 → Climbed p new (i - 1) 1 r
-      unfolding waiting behindWaiting
+      occupied : (new : List ℕ) (r : ℕ) → drop r new ≡ block_words (front next (blocks_in_lem (drop at items))) → length new ≡ 120 → Climbed p new (i - 1) 1 r
+      unfolding waiting behind_waiting
       occupied new r e l =
-          let is = is-occupied (gradeAt p (i - 1)) (omega (arith, here.obligors)) in
-          let rest = behindWaiting (suffix p i) in
-          let same : next ≡ block (waiting (suffix p i) + 1) (gradeAt p (i - 1)).obligors (gradeAt p (i - 1)).defaults =
+          let is = is-occupied (grade_at p (i - 1)) (omega (arith, here.obligors)) in
+          let rest = behind_waiting (suffix p i) in
+          let same : next ≡ block (waiting (suffix p i) + 1) (grade_at p (i - 1)).obligors (grade_at p (i - 1)).defaults =
           rw (inv.waits, its, here.obligors, here.defaults) refl in
           let n = front_length next rest in
           let now-held = rw back at e in
-          let one = count-words new r (front next rest) now-held in
-          let before = count-words items at rest inv.stored in
+          let one = count_words new r (front next rest) now-held in
+          let before = count_words items at rest inv.stored in
           record {
             inside = omega (arith, inv.inside);
             room = omega (arith, inv.room, inv.short, inv.long);
             short = omega arith;
             long = l;
             waits = rw (here.down, is) refl;
-            stored = rw (here.down, is) (now-held ∙ ap (λ (b : Block). blockWords (front b rest)) same);
+            stored = rw (here.down, is) (now-held ∙ ap (λ (b : Block). block_words (front b rest)) same);
           }
 
 -- After the best grade: those that still wait belong to the first block.
 module _ {w items : List ℕ} {i grades at : ℕ} (holds : HoldsTable w) (inv : Climbed (place_in w) items i grades at) (done : i ≡ 0) where
   abbrev t : Table
-  t = tableIn w
+  t = table_in w
 
-  held : drop at items ≡ blockWords (behindWaiting t)
-  held = rw (suffix-all (place_in w) i done) at inv.stored
+  held : drop at items ≡ block_words (behind_waiting t)
+  held = rw (suffix_all (place_in w) i done) at inv.stored
 
   -- There is one.
   within : at < 120
   within =
-      omega (arith, behind-some t holds.sound.some-occupied, count-words items at (behindWaiting t) held, inv.long)
+      omega (arith, behind_some t holds.sound.some_occupied, count_words items at (behind_waiting t) held, inv.long)
 
   -- It has no more grades than the table.
   first_fits : get_or items at 0 + (grades - 1) ≤ 40
   unfolding sum_of
   first_fits =
-      let f = first items at (behindWaiting t) held (omega (arith, within, inv.long)) in
-      let s = behind-sums t holds.sound.counted in
-      let k = rw (suffix-all (place_in w) i done) at inv.waits in
+      let f = first items at (behind_waiting t) held (omega (arith, within, inv.long)) in
+      let s = behind_sums t holds.sound.counted in
+      let k = rw (suffix_all (place_in w) i done) at inv.waits in
       omega (arith, rw f.split at s.grades, holds.sound.few)
 
-  finished : drop at (set items at (get_or items at 0 + (grades - 1))) ≡ blockWords (spanning t)
+  finished : drop at (set items at (get_or items at 0 + (grades - 1))) ≡ block_words (spanning t)
   finished =
-      let k : grades - 1 ≡ waiting t = omega (arith, rw (suffix-all (place_in w) i done) at inv.waits) in
-      rw k (words-lengthened items at (waiting t) (behindWaiting t) held)
+      let k : grades - 1 ≡ waiting t = omega (arith, rw (suffix_all (place_in w) i done) at inv.waits) in
+      rw k (words_lengthened items at (waiting t) (behind_waiting t) held)
 
 -- The start of the function, seen from the head of the loop.
 abbrev begun : tie.At-loop invariant-loop decreases-loop → tie.Start invariant-loop decreases-loop
 begun c = c.before.before.before
 
 loop-holds : tie.Need-loop-init invariant-loop decreases-loop
-unfolding waiting behindWaiting blockWords
+unfolding waiting behind_waiting block_words
 loop-holds c =
     let s = c.before.before in
     let p = place_in s.args.place.now in
-    let few = few-in s.requires.0 in
-    let none = suffix-end p c.grades-of.result (omega (arith, c.grades-of.ensures)) in
+    let few = few_in s.requires.0 in
+    let none = suffix_end p c.grades-of.result (omega (arith, c.grades-of.ensures)) in
     record {
       inside = omega (arith, c.grades-of.ensures);
       room = omega (arith, c.grades-of.ensures);
@@ -148,7 +148,7 @@ loop-holds c =
     }
 
 near : (c : tie.In-loop invariant-loop decreases-loop) → (c.before.loop.i ≤ 40) × (length (begun c.before).args.place.now ≡ 122)
-near c = let h = (begun c.before).pre.0 in (omega (arith, c.before.loop.invariant.inside, few-in h), h.long)
+near c = let h = (begun c.before).pre.0 in (omega (arith, c.before.loop.invariant.inside, few_in h), h.long)
 
 loop-again : tie.Need-loop-preserved invariant-loop decreases-loop
 loop-again c =
@@ -164,8 +164,8 @@ module _ (c : tie.After-shared-slice-known2 invariant-loop decreases-loop) where
   abbrev head : tie.At-loop invariant-loop decreases-loop
   head = taken.before.before
 
-  some-here : 1 ≤ taken.obligors-at.result.0
-  some-here = omega (arith, c.before.if1.false)
+  some_here : 1 ≤ taken.obligors-at.result.0
+  some_here = omega (arith, c.before.if1.false)
 
 put-before-requires : tie.Need-put-before-requires invariant-loop decreases-loop
 put-before-requires c κs =
@@ -173,13 +173,13 @@ put-before-requires c κs =
     let l = head k in
     let inv = l.loop.inv in
     let h = (begun l).pre.0 in
-    ((inv.long, omega (arith, inv.room), inv.short), (rw (back h inv) inv.stored, fits h inv (omega arith) _ (taken k).obligors-at.ensures (some-here k)))
+    ((inv.long, omega (arith, inv.room), inv.short), (rw (back h inv) inv.stored, fits h inv (omega arith) _ (taken k).obligors-at.ensures (some_here k)))
 
 loop-again-2 : tie.Need-loop-preserved-2 invariant-loop decreases-loop
 loop-again-2 c =
     let k = c.before.before in
     let l = head k in
-    occupied (begun l).pre.0 l.loop.inv (omega arith) _ (taken k).obligors-at.ensures (some-here k) _ _
+    occupied (begun l).pre.0 l.loop.inv (omega arith) _ (taken k).obligors-at.ensures (some_here k) _ _
     c.put-before.ensures.0
     c.put-before.ensures.1
 
@@ -210,7 +210,7 @@ blocks-of-spec =
     loop-holds
     (λ c. omega arith)
     (λ c κs. let w = near c in omega arith)
-    (λ c. let l = c.before.before.before.before in let w = few-wait (begun l).requires.0 l.loop.invariant in omega arith)
+    (λ c. let l = c.before.before.before.before in let w = few_wait (begun l).requires.0 l.loop.invariant in omega arith)
     (λ c. omega arith)
     loop-again
     (λ c. let w = near c.before.before.before in omega arith)

@@ -1,38 +1,38 @@
 -- What is claimed of pooling: `claims` has nothing to do but to show it.
-use Rattle.table.proofs.Occupied.{all-occupied, same-counts}
-use Rattle.pooling.proofs.Front.{pool-rising}
-use Rattle.pooling.proofs.Joined.{pooled-totals}
-use Rattle.pooling.proofs.Scale.{scale-occupied, pooled-sound}
-use Rattle.pooling.proofs.Runs.{pool-runs}
-use Rattle.pooling.proofs.Proper.{arithmetic-proper, errors-proper}
-use Rattle.pooling.proofs.LeastSquares.{pooled-regression, error-at-least}
-use Rattle.pooling.proofs.Determined.{blocks-determined}
-use Rattle.pooling.proofs.Repeating.{next-better, best-occupied}
-use Rattle.pooling.proofs.Written.{occupied-written, rates-written, none-empty-written}
-use Rattle.pooling.proofs.Bands.{band-right}
-use Rattle.pooling.proofs.Limits.{limits-right}
+use Rattle.table.proofs.Occupied.{all-occupied, same_counts}
+use Rattle.pooling.proofs.Front.{pool_rising}
+use Rattle.pooling.proofs.Joined.{pooled_totals}
+use Rattle.pooling.proofs.Scale.{scale_occupied, pooled_sound}
+use Rattle.pooling.proofs.Runs.{pool_runs}
+use Rattle.pooling.proofs.Proper.{arithmetic_proper, errors_proper}
+use Rattle.pooling.proofs.LeastSquares.{pooled_regression, error_at_least}
+use Rattle.pooling.proofs.Determined.{blocks_determined}
+use Rattle.pooling.proofs.Repeating.{next_better, best-occupied}
+use Rattle.pooling.proofs.Written.{occupied_written, rates-written, none_empty_written}
+use Rattle.pooling.proofs.Bands.{band_right}
+use Rattle.pooling.proofs.Limits.{limits_right}
 use Rattle.pooling.proofs.claims.Statement.{statement}
 use Rattle.pooling.proofs.claims.Tie as tie
 
 returns : tie.Need-returns
 returns c = record {
-  blocks-are-runs = pool-runs;
-  rates-rise = pool-rising;
-  empty-grades-add-nothing = λ t h. let s = same-counts t h in (all-occupied t, s.obligors, s.defaults, s.survivors);
-  pooled-scale-is-a-table = λ t s. (pooled-sound t s, scale-occupied t);
-  totals-are-kept = pooled-totals;
-  pooled-rates-are-the-regression = pooled-regression;
-  occupied-grades-have-their-own-numbers = occupied-written;
-  written-rates-are-the-pooled-rates = rates-written;
-  occupied-tables-repeat-nothing = none-empty-written;
-  empty-grades-repeat-the-next-better = next-better;
-  empty-grades-repeat-the-best = best-occupied;
-  error-is-at-least = error-at-least;
-  blocks-are-determined = blocks-determined;
-  bands-are-right = band-right;
-  listed-limits-are-right = limits-right;
-  arithmetic-keeps-proper = arithmetic-proper;
-  errors-are-proper = errors-proper;
+  blocks_are_runs = pool_runs;
+  rates_rise = pool_rising;
+  empty_grades_add_nothing = λ t h. let s = same_counts t h in (all-occupied t, s.obligors, s.defaults, s.survivors);
+  pooled_scale_is_a_table = λ t s. (pooled_sound t s, scale_occupied t);
+  totals_are_kept = pooled_totals;
+  pooled_rates_are_the_regression = pooled_regression;
+  occupied_grades_have_their_own_numbers = occupied_written;
+  written_rates_are_the_pooled_rates = rates-written;
+  occupied_tables_repeat_nothing = none_empty_written;
+  empty_grades_repeat_the_next_better = next_better;
+  empty_grades_repeat_the_best = best-occupied;
+  error_is_at_least = error_at_least;
+  blocks_are_determined = blocks_determined;
+  bands_are_right = band_right;
+  listed_limits_are_right = limits_right;
+  arithmetic_keeps_proper = arithmetic_proper;
+  errors_are_proper = errors_proper;
 }
 
 pub claims-spec : {M : Type 1} → statement M

@@ -8,8 +8,8 @@ use mathlib.Core.Logic.{⊎_elim}
 use native.Mathlib.Omega.{arith}
 use borrow.Author.Tests.{not-true, not-false}
 use lib.ListN.{length, drop, length-drop}
-use Rattle.pooling.specs.Pool.{Block, join, rateBelow, front}
-use Rattle.pooling.specs.Private.{Fitting, sum_of, blockWords, blockAt, blocksIn}
+use Rattle.pooling.specs.Pool.{Block, join, rate_below, front}
+use Rattle.pooling.specs.Private.{Fitting, sum_of, block_words, block_at_lem, blocks_in_lem}
 use Rattle.pooling.proofs.Words.{First, first, no_block}
 use Rattle.pooling.proofs.put_before.Statement.{statement}
 use Rattle.pooling.proofs.put_before.Tie as tie
@@ -19,7 +19,7 @@ record Joining (all : List Block) (b : Block) (items : List ℕ) (at : ℕ) : Ty
   pub short : at ≤ 120
   pub long : length items ≡ 120
   pub rest : List Block
-  pub stored : drop at items ≡ blockWords rest
+  pub stored : drop at items ≡ block_words rest
   pub fits : Fitting (join b (sum_of rest))
   pub same : front b rest ≡ all
 
@@ -34,7 +34,7 @@ module _ {all : List Block} {b : Block} {items : List ℕ} {at : ℕ} (inv : Joi
     next : First items at inv.rest
     next = first items at inv.rest inv.stored (omega (arith, inv.long))
 
-    module _ (x : Block) (read_next : x ≡ blockAt items at) where
+    module _ (x : Block) (read_next : x ≡ block_at_lem items at) where
       split : inv.rest ≡ x ∷ next.others
       split = rw read_next next.split
 
@@ -42,7 +42,7 @@ module _ {all : List Block} {b : Block} {items : List ℕ} {at : ℕ} (inv : Joi
       unfolding sum_of
       both = rw split at inv.fits
 
-      joins : rateBelow b x ≡ false → Joining all (join b x) items (at + 3)
+      joins : rate_below b x ≡ false → Joining all (join b x) items (at + 3)
       unfolding front
       joins e = record {
         room = omega arith;
@@ -54,7 +54,7 @@ module _ {all : List Block} {b : Block} {items : List ℕ} {at : ℕ} (inv : Joi
         same = rw (split, e) at inv.same;
       }
 
-      below : rateBelow b x ≡ true → Stays
+      below : rate_below b x ≡ true → Stays
       unfolding front
       below e = rw split (rw (split, e) at inv.same)
 
@@ -64,15 +64,15 @@ module _ {all : List Block} {b : Block} {items : List ℕ} {at : ℕ} (inv : Joi
 
   -- The block in hand is stored: `new` are the items then.
   module _ (new : List ℕ) (put : drop (at - 3) new ≡ b.grades ∷ b.obligors.0 ∷ b.defaults ∷ drop (at - 3 + 3) items) where
-    words : drop (at - 3) new ≡ blockWords (b ∷ inv.rest)
-    unfolding blockWords
+    words : drop (at - 3) new ≡ block_words (b ∷ inv.rest)
+    unfolding block_words
     words = let e : at - 3 + 3 ≡ at = omega (arith, inv.room) in rw (e, inv.stored) at put
 
     full : length new ≡ 120
     full = omega (arith, inv.room, inv.short, inv.long, sym (length-drop (at - 3) new) ∙ ap length put, length-drop (at - 3 + 3) items)
 
 abbrev invariant-loop : tie.invariant-loop
-invariant-loop items₀ from b₀ at₀ items b at = Joining (front b₀ (blocksIn (drop from items₀))) b items at
+invariant-loop items₀ from b₀ at₀ items b at = Joining (front b₀ (blocks_in_lem (drop from items₀))) b items at
 
 abbrev decreases-loop : tie.decreases-loop
 decreases-loop items₀ from b₀ at₀ items b at = 120 - at
@@ -82,7 +82,7 @@ loop-holds c = record {
   room = c.requires.0.1;
   short = c.requires.0.2;
   long = c.requires.0.0;
-  rest = blocksIn (drop c.args.from c.args.items.now);
+  rest = blocks_in_lem (drop c.args.from c.args.items.now);
   stored = c.requires.1.0;
   fits = c.requires.1.1;
   same = refl;
@@ -99,8 +99,8 @@ loop-again : tie.Need-loop-preserved invariant-loop decreases-loop
 loop-again c =
     let w = c.before.before.before in
     let a = w.before.before.before.before in
-    let not-below = sym c.before.before.is_below.ensures ∙ not-true _ c.before.if2.true in
-    rw c.joined.ensures (joins a.loop.invariant w.before.before.before.if1.true _ w.block_at.ensures not-below)
+    let not_below = sym c.before.before.is_below.ensures ∙ not-true _ c.before.if2.true in
+    rw c.joined.ensures (joins a.loop.invariant w.before.before.before.if1.true _ w.block_at.ensures not_below)
 
 -- Where no join is made, there is no other block, or the rate is below that of the next.
 kept : (c : tie.Joined1 invariant-loop decreases-loop) → Stays c.before.loop.invariant
@@ -116,7 +116,7 @@ returns c =
     let j = c.before.before in
     let inv = j.before.loop.invariant in
     let put = c.store-block.ensures in
-    (words inv _ put ∙ ap blockWords (kept j), full inv _ put)
+    (words inv _ put ∙ ap block_words (kept j), full inv _ put)
 
 pub put-before-spec : {M : Type 1} → statement M
 put-before-spec =

@@ -1,7 +1,7 @@
 -- `main` is safe: the desk stays sound. It ends: the number of turns that are left falls.
 use borrow.Author.Rules.{rules}
 use Rattle.desk.specs.Desk.{SoundDesk}
-use Rattle.desk.proofs.Soundness.{fresh-sound}
+use Rattle.desk.proofs.Soundness.{fresh_sound}
 use Rattle.replay.proofs.main.Statement.{statement}
 use Rattle.replay.proofs.main.Tie as tie
 
@@ -18,7 +18,7 @@ main_spec =
     invariant-loop
     decreases-loop
     (λ c κs. search rules)
-    (λ c. rw c.empty.ensures fresh-sound)
+    (λ c. rw c.empty.ensures fresh_sound)
     (λ c. search rules)
     (λ c κs. search rules)
     (λ c. search rules)

@@ -1,24 +1,24 @@
 -- The claims: `claims` has nothing to do but to show each of them.
-use Rattle.shares.proofs.Shares.{cheapest-share, cheapest-shares-equal, share-costs-proper}
-use Rattle.shares.proofs.Weights.{multiples-equal, multiples-as-good}
-use Rattle.shares.proofs.Totals.{equal-totals-agree, shares-are-weights, break-even-shares}
-use Rattle.shares.proofs.Settled.{settles-by-shares, one-verdict, multiples-one-verdict}
+use Rattle.shares.proofs.Shares.{cheapest-share, cheapest_shares_equal, share_costs_proper}
+use Rattle.shares.proofs.Weights.{multiples_equal, multiples_as_good}
+use Rattle.shares.proofs.Totals.{equal_totals_agree, shares_are_weights, break_even_shares}
+use Rattle.shares.proofs.Settled.{settles_by_shares, one_verdict, multiples_one_verdict}
 use Rattle.shares.proofs.claims.Statement.{statement}
 use Rattle.shares.proofs.claims.Tie as tie
 
 returns : tie.Need-returns
 returns c = record {
-  cheapest-share-is-cheapest = cheapest-share;
-  cheapest-share-is-unique = cheapest-shares-equal;
-  share-costs-are-proper = share-costs-proper;
-  shares-are-weights = shares-are-weights;
-  break-even-shares-decide = break-even-shares;
-  shares-settle = settles-by-shares;
-  equal-totals-agree = equal-totals-agree;
-  equal-totals-have-one-verdict = one-verdict;
-  multiples-are-equal = multiples-equal;
-  multiples-are-as-good = multiples-as-good;
-  multiples-keep-the-verdict = multiples-one-verdict;
+  cheapest_share_is_cheapest = cheapest-share;
+  cheapest_share_is_unique = cheapest_shares_equal;
+  share_costs_are_proper = share_costs_proper;
+  shares_are_weights = shares_are_weights;
+  break_even_shares_decide = break_even_shares;
+  shares_settle = settles_by_shares;
+  equal_totals_agree = equal_totals_agree;
+  equal_totals_have_one_verdict = one_verdict;
+  multiples_are_equal = multiples_equal;
+  multiples_are_as_good = multiples_as_good;
+  multiples_keep_the_verdict = multiples_one_verdict;
 }
 
 pub claims-spec : {M : Type 1} → statement M

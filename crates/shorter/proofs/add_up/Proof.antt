@@ -9,24 +9,24 @@ use lib.ListN.{length, get_or, set, drop, length-set}
 use lib.Seq.{get_or-set_same, get_or-set_other}
 use Rattle.table.specs.declared.Place.{Place}
 use Rattle.table.specs.declared.Survivors.{Survivors}
-use Rattle.table.specs.Table.{defaultsIn, survivorsIn, obligorsIn}
+use Rattle.table.specs.Table.{defaults_in, survivors_in, obligors_in}
 use Rattle.table.specs.Place.{table_of}
 use Rattle.table.specs.Words.{place_in}
-use Rattle.table.proofs.Suffix.{suffix, suffix-end, length-grades}
-use Rattle.table.proofs.Words.{Turn, turn, few-in}
-use Rattle.cutoff.specs.Cutoff.{turnedAway}
-use Rattle.measures.proofs.Cutoffs.{turned-suffix}
-use Rattle.shorter.specs.Private.{survivedFrom, defaultedFrom, Sums}
+use Rattle.table.proofs.Suffix.{suffix, suffix_end, length_grades}
+use Rattle.table.proofs.Words.{Turn, turn, few_in}
+use Rattle.cutoff.specs.Cutoff.{turned_away}
+use Rattle.measures.proofs.Cutoffs.{turned_suffix}
+use Rattle.shorter.specs.Private.{survived_from, defaulted_from, Sums}
 use Rattle.shorter.proofs.add_up.Statement.{statement}
 use Rattle.shorter.proofs.add_up.Tie as tie
 
 -- w becomes w': the sums s and d are stored at a.
 record Stored (w w' : List ℕ) (a s d : ℕ) : Type 0 where
   pub long : length w' ≡ 82
-  pub survived : survivedFrom w' a ≡ s
-  pub defaulted : defaultedFrom w' a ≡ d
-  pub survived-else : (h : ℕ) → h ≤ 40 → (h ≡ a → ⊥) → survivedFrom w' h ≡ survivedFrom w h
-  pub defaulted-else : (h : ℕ) → h ≤ 40 → (h ≡ a → ⊥) → defaultedFrom w' h ≡ defaultedFrom w h
+  pub survived : survived_from w' a ≡ s
+  pub defaulted : defaulted_from w' a ≡ d
+  pub survived_else : (h : ℕ) → h ≤ 40 → (h ≡ a → ⊥) → survived_from w' h ≡ survived_from w h
+  pub defaulted_else : (h : ℕ) → h ≤ 40 → (h ≡ a → ⊥) → defaulted_from w' h ≡ defaulted_from w h
 
 stored : (w : List ℕ) (a s d : ℕ) → length w ≡ 82 → a ≤ 40 → Stored w (set (set w a s) (41 + a) d) a s d
 stored w a s d long few =
@@ -36,17 +36,17 @@ stored w a s d long few =
       long = rw length-set n;
       survived = get_or-set_other v (41 + a) a d 0 (λ x. omega arith) ∙ get_or-set_same w a s 0 (omega arith);
       defaulted = get_or-set_same v (41 + a) d 0 (omega arith);
-      survived-else = λ h l other. get_or-set_other v (41 + a) h d 0 (λ x. omega arith) ∙ get_or-set_other w a h s 0 other;
-      defaulted-else = λ h l other. get_or-set_other v (41 + a) (41 + h) d 0 (λ x. other (omega arith)) ∙ get_or-set_other w a (41 + h) s 0 (λ x. omega arith);
+      survived_else = λ h l other. get_or-set_other v (41 + a) h d 0 (λ x. omega arith) ∙ get_or-set_other w a h s 0 other;
+      defaulted_else = λ h l other. get_or-set_other v (41 + a) (41 + h) d 0 (λ x. other (omega arith)) ∙ get_or-set_other w a (41 + h) s 0 (λ x. omega arith);
     }
 
 record Summed (p : Place) (i : ℕ) (s : Survivors) (d : ℕ) (w : List ℕ) : Type 0 where
   pub inside : i ≤ p.grades
-  pub survived : s.0 ≡ survivorsIn (suffix p i)
-  pub defaulted : d ≡ defaultsIn (suffix p i)
+  pub survived : s.0 ≡ survivors_in (suffix p i)
+  pub defaulted : d ≡ defaults_in (suffix p i)
   pub long : length w ≡ 82
-  pub survived-at : (h : ℕ) → i ≤ h → h ≤ p.grades → survivedFrom w h ≡ survivorsIn (suffix p h)
-  pub defaulted-at : (h : ℕ) → i ≤ h → h ≤ p.grades → defaultedFrom w h ≡ defaultsIn (suffix p h)
+  pub survived_at : (h : ℕ) → i ≤ h → h ≤ p.grades → survived_from w h ≡ survivors_in (suffix p h)
+  pub defaulted_at : (h : ℕ) → i ≤ h → h ≤ p.grades → defaulted_from w h ≡ defaults_in (suffix p h)
 
 -- Grade i - 1 more, with y survivors.
 module _ {place : List ℕ} {i : ℕ} {s : Survivors} {d : ℕ} {w : List ℕ} (m : Summed (place_in place) i s d w) (t : Turn place i) (up : 0 < i) {y : ℕ}
@@ -55,58 +55,58 @@ module _ {place : List ℕ} {i : ℕ} {s : Survivors} {d : ℕ} {w : List ℕ} (
   x = get_or place (40 + (i - 1)) 0
 
   enough : (s.0 + y ≤ 1_000_000) × (d + x ≤ 1_000_000)
-  unfolding survivorsIn defaultsIn obligorsIn
+  unfolding survivors_in defaults_in obligors_in
   enough = omega (arith, m.survived, m.defaulted, t.obligors, t.defaults, t.here.obligors, t.here.split)
 
   more : {s' : Survivors} → s'.0 ≡ s.0 + y → Summed (place_in place) (i - 1) s' (d + x) (set (set w (i - 1) s'.0) (41 + (i - 1)) (d + x))
-  unfolding survivorsIn defaultsIn
+  unfolding survivors_in defaults_in
   more {s'} sum =
       let p = place_in place in
-      let survived : s'.0 ≡ survivorsIn (suffix p (i - 1)) = rw t.down (omega (arith, m.survived, t.obligors, t.defaults)) in
-      let defaulted : d + x ≡ defaultsIn (suffix p (i - 1)) = rw t.down (omega (arith, m.defaulted, t.defaults)) in
+      let survived : s'.0 ≡ survivors_in (suffix p (i - 1)) = rw t.down (omega (arith, m.survived, t.obligors, t.defaults)) in
+      let defaulted : d + x ≡ defaults_in (suffix p (i - 1)) = rw t.down (omega (arith, m.defaulted, t.defaults)) in
       let new = stored w (i - 1) s'.0 (d + x) m.long (omega (arith, m.inside, t.few)) in
       record {
         inside = omega (arith, m.inside);
         survived = survived;
         defaulted = defaulted;
         long = new.long;
-        survived-at = λ h l k. elim (dec_le i h) [
-          | yes le ↦ new.survived-else h (omega (arith, t.few)) (λ z. omega arith) ∙ m.survived-at h le k
+        survived_at = λ h l k. elim (dec_le i h) [
+          | yes le ↦ new.survived_else h (omega (arith, t.few)) (λ z. omega arith) ∙ m.survived_at h le k
           | no gt ↦ let z : h ≡ i - 1 = omega arith in rw z (new.survived ∙ survived)
         ];
-        defaulted-at = λ h l k. elim (dec_le i h) [
-          | yes le ↦ new.defaulted-else h (omega (arith, t.few)) (λ z. omega arith) ∙ m.defaulted-at h le k
+        defaulted_at = λ h l k. elim (dec_le i h) [
+          | yes le ↦ new.defaulted_else h (omega (arith, t.few)) (λ z. omega arith) ∙ m.defaulted_at h le k
           | no gt ↦ let z : h ≡ i - 1 = omega arith in rw z (new.defaulted ∙ defaulted)
         ];
       }
 
 -- Behind the last grade there is nobody.
 none : (p : Place) (i : ℕ) (w : List ℕ) → i ≡ p.grades → i ≤ 40 → length w ≡ 82 → Summed p i (record { 0 = 0 }) 0 (set (set w i 0) (41 + i) 0)
-unfolding survivorsIn defaultsIn
+unfolding survivors_in defaults_in
 none p i w e few long =
-    let end = suffix-end p i (omega arith) in
+    let end = suffix_end p i (omega arith) in
     let new = stored w i 0 0 long few in
     record {
       inside = omega arith;
       survived = rw end;
       defaulted = rw end;
       long = new.long;
-      survived-at = λ h a b. let z : h ≡ i = omega arith in rw (z, end) new.survived;
-      defaulted-at = λ h a b. let z : h ≡ i = omega arith in rw (z, end) new.defaulted;
+      survived_at = λ h a b. let z : h ≡ i = omega arith in rw (z, end) new.survived;
+      defaulted_at = λ h a b. let z : h ≡ i = omega arith in rw (z, end) new.defaulted;
     }
 
-suffix-drop : (p : Place) (i : ℕ) → i ≤ p.grades → drop i (table_of p) ≡ suffix p i
-unfolding turnedAway
-suffix-drop p i h =
-    let e : length (table_of p) - (p.grades - i) ≡ i = omega (arith, length-grades p 0 p.grades) in
-    rw e at (turned-suffix p i h)
+suffix_drop : (p : Place) (i : ℕ) → i ≤ p.grades → drop i (table_of p) ≡ suffix p i
+unfolding turned_away
+suffix_drop p i h =
+    let e : length (table_of p) - (p.grades - i) ≡ i = omega (arith, length_grades p 0 p.grades) in
+    rw e at (turned_suffix p i h)
 
 all : {p : Place} {i : ℕ} {s : Survivors} {d : ℕ} {w : List ℕ} → Summed p i s d w → i ≡ 0 → Sums (table_of p) w
 all {p} m e =
-    let n = length-grades p 0 p.grades in
+    let n = length_grades p 0 p.grades in
     record {
-      survived = λ h l. rw (suffix-drop p h (omega arith)) (m.survived-at h (omega arith) (omega arith));
-      defaulted = λ h l. rw (suffix-drop p h (omega arith)) (m.defaulted-at h (omega arith) (omega arith));
+      survived = λ h l. rw (suffix_drop p h (omega arith)) (m.survived_at h (omega arith) (omega arith));
+      defaulted = λ h l. rw (suffix_drop p h (omega arith)) (m.defaulted_at h (omega arith) (omega arith));
     }
 
 abbrev invariant-loop : tie.invariant-loop
@@ -116,7 +116,7 @@ abbrev decreases-loop : tie.decreases-loop
 decreases-loop place sums₀ i₀ s₀ d₀ sums i s d = i
 
 few : (c : tie.After-grades-of invariant-loop decreases-loop) → c.grades-of.result ≤ 40
-few c = omega (arith, c.grades-of.ensures, few-in c.before.before.requires.0)
+few c = omega (arith, c.grades-of.ensures, few_in c.before.before.requires.0)
 
 at : (c : tie.In-loop invariant-loop decreases-loop) → Turn c.before.before.before.before.args.place.now c.before.loop.i
 at c = turn _ _ c.before.before.before.before.requires.0 c.loop-test.true c.before.loop.invariant.inside

@@ -7,16 +7,16 @@ use lib.ListN.{length, drop}
 use mir.Syntax.{w64}
 use mir.Val.{SFits}
 use mir.ValLaws.{to_z-of_z}
-use Rattle.table.specs.Words.{place_in, tableIn}
-use Rattle.table.proofs.Signed.{difference-fits}
-use Rattle.table.proofs.Suffix.{length-grades}
-use Rattle.shorter.proofs.Answer.{falling, Searched, leads, small-value, small-pairs, best, value, kept}
+use Rattle.table.specs.Words.{place_in, table_in}
+use Rattle.table.proofs.Signed.{difference_fits}
+use Rattle.table.proofs.Suffix.{length_grades}
+use Rattle.shorter.proofs.Answer.{falling, Searched, leads, small_value, small_pairs, best, value, kept}
 use Rattle.shorter.proofs.shorten.Statement.{statement}
 use Rattle.shorter.proofs.shorten.Tie as tie
 
 -- the grade count
-grades : (c : tie.After-grades-of) → c.grades-of.result ≡ length (tableIn c.before.before.before.args.place.now)
-grades c = let p = place_in c.before.before.before.args.place.now in c.grades-of.ensures ∙ sym (length-grades p 0 p.grades)
+grades : (c : tie.After-grades-of) → c.grades-of.result ≡ length (table_in c.before.before.before.args.place.now)
+grades c = let p = place_in c.before.before.before.args.place.now in c.grades-of.ensures ∙ sym (length_grades p 0 p.grades)
 
 fill-rows-requires : tie.Need-fill-rows-requires
 fill-rows-requires c κs =
@@ -26,7 +26,7 @@ fill-rows-requires c κs =
 
 known : (c : tie.After-fill-rows) →
     let a = c.before.before.before.before.before.before.args in
-    Searched (tableIn a.place.now) a.sums.now (record { runs = a.runs; grades = c.before.before.before.grades-of.result })
+    Searched (table_in a.place.now) a.sums.now (record { runs = a.runs; grades = c.before.before.before.grades-of.result })
     c.fill-rows.new.1.0 c.fill-rows.new.1.1.0
 known c =
     let p = c.before.before.before.before.before.before.requires in
@@ -67,7 +67,7 @@ shorten-spec =
     (λ c. search rules)
     (λ c. search rules)
     (λ c. search rules)
-    (λ c. omega (arith, small-pairs (known c.before.before.before.before.before.before.before)))
-    (λ c κs. let k = known c.before.before.before.before.before.before.before in omega (arith, small-value k, small-pairs k))
+    (λ c. omega (arith, small_pairs (known c.before.before.before.before.before.before.before)))
+    (λ c κs. let k = known c.before.before.before.before.before.before.before in omega (arith, small_value k, small_pairs k))
     (λ c. search rules)
     returns)

@@ -1,19 +1,19 @@
 -- The claims: `claims` has nothing to do but to show each of them.
-use Rattle.shortlist.proofs.Order.{better-computed}
-use Rattle.shortlist.proofs.Books.{not-refused, comparable, taken, book-unbeaten, in_order, book-equals, book-beaten, book-some}
+use Rattle.shortlist.proofs.Order.{better_computed}
+use Rattle.shortlist.proofs.Books.{not_refused, comparable, taken, book_unbeaten, in_order, book_equals, book_beaten, book_some}
 use Rattle.shortlist.proofs.claims.Statement.{statement}
 use Rattle.shortlist.proofs.claims.Tie as tie
 
 returns : tie.Need-returns
 returns c = record {
-  better-is-computed = better-computed;
-  accepted-raters-are-comparable = comparable;
-  comparable-raters-are-accepted = taken;
-  listed-are-unbeaten = λ b n e. book-unbeaten b (not-refused b n e);
-  listed-in-book-order = in_order;
-  equals-stand-together = λ b n e. book-equals b (not-refused b n e);
-  unlisted-are-beaten = λ b n e. book-beaten b (not-refused b n e);
-  list-is-never-empty = λ b n e. book-some b (not-refused b n e);
+  better_is_computed = better_computed;
+  accepted_raters_are_comparable = comparable;
+  comparable_raters_are_accepted = taken;
+  listed_are_unbeaten = λ b n e. book_unbeaten b (not_refused b n e);
+  listed_in_book_order = in_order;
+  equals_stand_together = λ b n e. book_equals b (not_refused b n e);
+  unlisted_are_beaten = λ b n e. book_beaten b (not_refused b n e);
+  list_is_never_empty = λ b n e. book_some b (not_refused b n e);
 }
 
 pub claims-spec : {M : Type 1} → statement M

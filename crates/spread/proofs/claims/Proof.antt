@@ -1,15 +1,15 @@
 -- What is claimed of the spread: `claims` has nothing to do but to show it.
-use Rattle.spread.proofs.Brier.{total-brier, residual-brier}
-use Rattle.spread.proofs.Proper.{sums-proper, floats-proper}
+use Rattle.spread.proofs.Brier.{total_brier, residual_brier}
+use Rattle.spread.proofs.Proper.{sums_proper, floats_proper}
 use Rattle.spread.proofs.claims.Statement.{statement}
 use Rattle.spread.proofs.claims.Tie as tie
 
 returns : tie.Need-returns
 returns c = record {
-  total-is-the-brier-sum-of-the-one-rate = total-brier;
-  residual-is-the-brier-sum-of-the-pooled-rates = residual-brier;
-  sums-are-proper = sums-proper;
-  floats-are-proper = floats-proper;
+  total_is_the_brier_sum_of_the_one_rate = total_brier;
+  residual_is_the_brier_sum_of_the_pooled_rates = residual_brier;
+  sums_are_proper = sums_proper;
+  floats_are_proper = floats_proper;
 }
 
 pub claims-spec : {M : Type 1} → statement M

@@ -11,16 +11,16 @@ use borrow.Author.Tests.{not-true, not-false}
 use lib.Ieee.{Float, binary64, add}
 use lib.ListN.{length, get_or, drop}
 use lib.Seq.{get_or-drop, drop-drop}
-use Rattle.table.specs.Words.{tableIn}
+use Rattle.table.specs.Words.{table_in}
 use Rattle.pooling.specs.declared.Block.{Block}
 use Rattle.pooling.specs.Fraction.{ratio}
 use Rattle.pooling.specs.Private.{block, spanning, shows}
-use Rattle.pooling.proofs.Scale.{scale-occupied, pooled-sound}
-use Rattle.pooling.proofs.Spanning.{spanning-scale}
+use Rattle.pooling.proofs.Scale.{scale_occupied, pooled_sound}
+use Rattle.pooling.proofs.Spanning.{spanning_scale}
 use Rattle.pooling.proofs.Passing.{Passing, Next, same, new, begin, next, passed}
-use Rattle.pooled_place.specs.PooledPlace.{noList}
+use Rattle.pooled_place.specs.PooledPlace.{no_list}
 use Rattle.pooled_place.specs.Words.{HoldsPooledTable}
-use Rattle.pooled_place.proofs.Words.{grades-in, held-length, held-list}
+use Rattle.pooled_place.proofs.Words.{grades-in, held-length, held_list}
 use Rattle.spread.specs.Near.{Within}
 use Rattle.spread.proofs.Exact.{IsScale}
 use Rattle.spread.proofs.Adding.{Added, start, counts, step, finish}
@@ -33,7 +33,7 @@ record Adding (w : List ℕ) (end : ℕ) (x : Block) (sum : Float) (at : ℕ) : 
   pub from : 122 ≤ at
   pub index : at + 3 * left ≡ end
   pub passing : Passing (drop at w) x rest left
-  pub added : Added (spanning (tableIn w)) rest sum
+  pub added : Added (spanning (table_in w)) rest sum
 
 abbrev invariant-loop : tie.invariant-loop
 invariant-loop place end x₀ sum₀ at₀ x sum at = Adding place end x sum at
@@ -41,8 +41,8 @@ invariant-loop place end x₀ sum₀ at₀ x sum at = Adding place end x sum at
 abbrev decreases-loop : tie.decreases-loop
 decreases-loop place end x₀ sum₀ at₀ x sum at = end - at
 
-scale : (w : List ℕ) → HoldsPooledTable w → IsScale (spanning (tableIn w))
-scale w h = let t = tableIn w in rw (spanning-scale t) (pooled-sound t h.sound, scale-occupied t)
+scale : (w : List ℕ) → HoldsPooledTable w → IsScale (spanning (table_in w))
+scale w h = let t = table_in w in rw (spanning_scale t) (pooled_sound t h.sound, scale_occupied t)
 
 -- A turn: the numbers of the next grade, n being its obligors, and what the code finds of them.
 data Turn (w : List ℕ) (end : ℕ) (x : Block) (sum : Float) (at n : ℕ) : Type 0 where
@@ -54,9 +54,9 @@ data Turn (w : List ℕ) (end : ℕ) (x : Block) (sum : Float) (at n : ℕ) : Ty
       → Turn w end x sum at n
 
 module _ (w : List ℕ) (h : HoldsPooledTable w) (end : ℕ) (x : Block) (sum : Float) (at n : ℕ) (rest : List Block) (k : ℕ) (from : 122 ≤ at) (index : at + 3 * suc k ≡ end)
-    (a : Added (spanning (tableIn w)) rest sum) where
+    (a : Added (spanning (table_in w)) rest sum) where
   abbrev bs : List Block
-  bs = spanning (tableIn w)
+  bs = spanning (table_in w)
 
   added_new : (c : Block) (cs : List Block) → rest ≡ c ∷ cs → Added bs (c ∷ cs) sum
   added_new c cs e = rw e at a
@@ -91,27 +91,27 @@ turn w h end x sum at n of less i (suc k) e =
     (drop-drop 3 at w)
 
 -- by what the code found
-is-again : {w : List ℕ} {end : ℕ} {x : Block} {sum : Float} {at n : ℕ} → Turn w end x sum at n → (b : Bool) → b ≡ shows x (get_or w at 0) (n) → not b ≡ false
+is_again : {w : List ℕ} {end : ℕ} {x : Block} {sum : Float} {at n : ℕ} → Turn w end x sum at n → (b : Bool) → b ≡ shows x (get_or w at 0) (n) → not b ≡ false
     → Adding w end x sum (at + 3)
-is-again (again s i) b e h = i
-is-again (more s m f) b e h = let z : ◌≡◌ {A = ℕ} 0 1 = cc (s, e, not-false b h) in absurd (omega arith)
+is_again (again s i) b e h = i
+is_again (more s m f) b e h = let z : ◌≡◌ {A = ℕ} 0 1 = cc (s, e, not-false b h) in absurd (omega arith)
 
 record New (w : List ℕ) (end : ℕ) (sum : Float) (at n : ℕ) : Type 0 where
   pub small : (1 ≤ n) × (get_or w at 0 ≤ n) × (n ≤ 1_000_000)
   pub then : (q : Float) → Within q (ratio (get_or w at 0 * (n - get_or w at 0)) (n)) 36
       → Adding w end (block 0 (n) (get_or w at 0)) (add binary64 sum q) (at + 3)
 
-is-new : {w : List ℕ} {end : ℕ} {x : Block} {sum : Float} {at n : ℕ} → Turn w end x sum at n → (b : Bool) → b ≡ shows x (get_or w at 0) (n) → not b ≡ true
+is_new : {w : List ℕ} {end : ℕ} {x : Block} {sum : Float} {at n : ℕ} → Turn w end x sum at n → (b : Bool) → b ≡ shows x (get_or w at 0) (n) → not b ≡ true
     → New w end sum at n
-is-new (again s i) b e h = let z : ◌≡◌ {A = ℕ} 0 1 = cc (s, e, not-true b h) in absurd (omega arith)
-is-new (more s m f) b e h = record { small = m; then = f }
+is_new (again s i) b e h = let z : ◌≡◌ {A = ℕ} 0 1 = cc (s, e, not-true b h) in absurd (omega arith)
+is_new (more s m f) b e h = record { small = m; then = f }
 
 -- In the loop.
 
 abbrev begun : tie.At-loop invariant-loop decreases-loop → tie.Start invariant-loop decreases-loop
 begun c = c.before.before.before
 
-count : (c : tie.After-place-grades invariant-loop decreases-loop) → c.place-grades.result ≡ length (tableIn c.before.before.args.place.now)
+count : (c : tie.After-place-grades invariant-loop decreases-loop) → c.place-grades.result ≡ length (table_in c.before.before.args.place.now)
 count c = grades-in c.before.before.args.place.now c.place-grades.ensures
 
 -- where the numbers end
@@ -130,19 +130,19 @@ turn_at c n of = turn _ (begun c.before).pre _ _ _ _ n of c.loop-test.true c.bef
 
 is-fresh : (c : tie.Then1 invariant-loop decreases-loop) → let l = c.before.before.before.before in
     New (begun l.before).args.place.now (122 + 3 * l.before.before.place-grades.result) l.before.loop.sum l.before.loop.at c.before.before.obligors-at.result.0
-is-fresh c = is-new (turn_at c.before.before.before.before _ c.before.before.obligors-at.ensures) _ c.before.shows.ensures c.if1.true
+is-fresh c = is_new (turn_at c.before.before.before.before _ c.before.before.obligors-at.ensures) _ c.before.shows.ensures c.if1.true
 
 loop-holds : tie.Need-loop-init invariant-loop decreases-loop
 loop-holds c =
     let w = c.before.before.args.place.now in
     let h = c.before.before.requires in
-    let t = tableIn w in
+    let t = table_in w in
     record {
       rest = spanning t;
       left = length t;
       from = omega arith;
       index = omega (arith, count c);
-      passing = subst (λ (l : List ℕ). Passing l (block 0 0 0) (spanning t) (length t)) (sym (held-list h)) (begin t h.sound noList);
+      passing = subst (λ (l : List ℕ). Passing l (block 0 0 0) (spanning t) (length t)) (sym (held_list h)) (begin t h.sound no_list);
       added = start (spanning t) (scale w h);
     }
 
@@ -150,7 +150,7 @@ loop-again : tie.Need-loop-preserved invariant-loop decreases-loop
 loop-again c = (is-fresh c.before).then c.quotient.result c.quotient.ensures
 
 loop-again-2 : tie.Need-loop-preserved-2 invariant-loop decreases-loop
-loop-again-2 c = is-again (turn_at c.before.before.before.before _ c.before.before.obligors-at.ensures) _ c.before.shows.ensures c.if1.false
+loop-again-2 c = is_again (turn_at c.before.before.before.before _ c.before.before.obligors-at.ensures) _ c.before.shows.ensures c.if1.false
 
 quotient-requires : tie.Need-quotient-requires invariant-loop decreases-loop
 quotient-requires c κs = let m = (is-fresh c).small in (m.1, (m.0, m.2))
@@ -162,7 +162,7 @@ returns c =
     let w = (begun l).args.place.now in
     let none : i.left ≡ 0 = omega (arith, i.index, c.loop-test.false) in
     let over = passed _ _ _ (rw none at i.passing) in
-    finish (spanning (tableIn w)) (scale w (begun l).requires) l.loop.sum (rw over at i.added)
+    finish (spanning (table_in w)) (scale w (begun l).requires) l.loop.sum (rw over at i.added)
 
 pub residual-spec : {M : Type 1} → statement M
 residual-spec =

@@ -1,6 +1,6 @@
 -- `few_grades_of` meets its contract.
 use native.Mathlib.Omega.{arith}
-use Rattle.table.proofs.Words.{few-in}
+use Rattle.table.proofs.Words.{few_in}
 use Rattle.table.proofs.few_grades_of.Statement.{statement}
 use Rattle.table.proofs.few_grades_of.Tie as tie
 
@@ -10,4 +10,4 @@ few-grades-of-spec =
     (tie.spec
     (λ c κs. c.before.requires.long)
     (λ c. c.before.grades-of.ensures)
-    (λ c. omega (arith, c.if1.false, c.before.grades-of.ensures, few-in c.before.before.before.requires)))
+    (λ c. omega (arith, c.if1.false, c.before.grades-of.ensures, few_in c.before.before.before.requires)))

@@ -7,17 +7,17 @@ use mathlib.Core.List.{List}
 use lib.ListN.{length, get_or}
 use Rattle.table.specs.declared.Place.{Place}
 use Rattle.table.specs.declared.Obligors.{Obligors}
-use Rattle.table.specs.Table.{Table, obligorsIn}
-use Rattle.table.specs.Place.{gradeAt, table_of}
-use Rattle.table.specs.Words.{place_in, tableIn, HoldsTable}
-use Rattle.table.proofs.Suffix.{suffix, suffix-all, suffix-at, suffix-end}
-use Rattle.table.proofs.Words.{column-at, few-in}
+use Rattle.table.specs.Table.{Table, obligors_in}
+use Rattle.table.specs.Place.{grade_at, table_of}
+use Rattle.table.specs.Words.{place_in, table_in, HoldsTable}
+use Rattle.table.proofs.Suffix.{suffix, suffix_all, suffix_at, suffix_end}
+use Rattle.table.proofs.Words.{column-at, few_in}
 use Rattle.table.proofs.obligors_of.Statement.{statement}
 use Rattle.table.proofs.obligors_of.Tie as tie
 
 record Summed (p : Place) (i : ℕ) (n : Obligors) : Type 0 where
   pub inside : i ≤ p.grades
-  pub all : n.0 + obligorsIn (suffix p i) ≡ obligorsIn (table_of p)
+  pub all : n.0 + obligors_in (suffix p i) ≡ obligors_in (table_of p)
 
 abbrev invariant-loop : tie.invariant-loop
 invariant-loop place grades all₀ i₀ all i = Summed (place_in place) i all
@@ -29,16 +29,16 @@ decreases-loop place grades all₀ i₀ all i = grades - i
 record Turn (w : List ℕ) (i n : ℕ) : Type 0 where
   pub inside : i < length w
   pub most : n + get_or w i 0 ≤ 1_000_000
-  pub more : n + get_or w i 0 + obligorsIn (suffix (place_in w) (i + 1)) ≡ obligorsIn (tableIn w)
+  pub more : n + get_or w i 0 + obligors_in (suffix (place_in w) (i + 1)) ≡ obligors_in (table_in w)
 
-turn : (w : List ℕ) → HoldsTable w → (i n : ℕ) → i < (place_in w).grades → n + obligorsIn (suffix (place_in w) i) ≡ obligorsIn (tableIn w) → Turn w i n
-unfolding obligorsIn
+turn : (w : List ℕ) → HoldsTable w → (i n : ℕ) → i < (place_in w).grades → n + obligors_in (suffix (place_in w) i) ≡ obligors_in (table_in w) → Turn w i n
+unfolding obligors_in
 turn w h i n less e =
     let p = place_in w in
-    let here : get_or w i 0 ≡ (gradeAt p i).obligors = rw zero-add at (column-at w 0 i (omega (arith, few-in h))) in
-    let down = ap (λ (t : Table). obligorsIn t) (suffix-at p i less) in
+    let here : get_or w i 0 ≡ (grade_at p i).obligors = rw zero-add at (column-at w 0 i (omega (arith, few_in h))) in
+    let down = ap (λ (t : Table). obligors_in t) (suffix_at p i less) in
     record {
-      inside = omega (arith, h.long, few-in h);
+      inside = omega (arith, h.long, few_in h);
       most = omega (arith, here, down, e, h.sound.total);
       more = omega (arith, here, down, e);
     }
@@ -51,7 +51,7 @@ at c =
 loop-holds : tie.Need-loop-init invariant-loop decreases-loop
 loop-holds c =
     let p = place_in c.before.before.args.place.now in
-    record { inside = omega arith; all = rw (suffix-all p 0 refl) (omega arith) }
+    record { inside = omega arith; all = rw (suffix_all p 0 refl) (omega arith) }
 
 loop-again : tie.Need-loop-preserved invariant-loop decreases-loop
 loop-again c =
@@ -63,12 +63,12 @@ loop-again c =
     }
 
 returns : tie.Need-returns invariant-loop decreases-loop
-unfolding obligorsIn
+unfolding obligors_in
 returns c =
     let l = c.before.loop in
     let k = c.before.before in
     let p = place_in k.before.before.args.place.now in
-    let none = ap (λ (t : Table). obligorsIn t) (suffix-end p l.i (omega (arith, c.loop-test.false, k.few-grades-of.ensures))) in
+    let none = ap (λ (t : Table). obligors_in t) (suffix_end p l.i (omega (arith, c.loop-test.false, k.few-grades-of.ensures))) in
     omega (arith, none, l.invariant.all)
 
 pub obligors-of-spec : {M : Type 1} → statement M

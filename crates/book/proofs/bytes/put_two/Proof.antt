@@ -3,13 +3,13 @@ use native.Mathlib.Numerals.{add-one}
 use native.Mathlib.Omega.{arith}
 use borrow.Author.Rules.{rules}
 use lib.ListN.{length-set}
-use Rattle.book.specs.Bytes.{twoBytes}
+use Rattle.book.specs.Bytes.{two_bytes}
 use Rattle.book.specs.Private.{stored}
 use Rattle.book.proofs.bytes.put_two.Statement.{statement}
 use Rattle.book.proofs.bytes.put_two.Tie as tie
 
 returns : tie.Need-returns
-unfolding stored twoBytes
+unfolding stored two_bytes
 returns c = rw add-one
 
 pub put-two-spec : {M : Type 1} → statement M

@@ -1,11 +1,11 @@
 -- `two_at` meets its contract.
 use borrow.Author.Rules.{rules}
-use Rattle.book.specs.Bytes.{twoAt}
+use Rattle.book.specs.Bytes.{two_at_lem}
 use Rattle.book.proofs.bytes.two_at.Statement.{statement}
 use Rattle.book.proofs.bytes.two_at.Tie as tie
 
 returns : tie.Need-returns
-unfolding twoAt
+unfolding two_at_lem
 returns c = search rules
 
 pub two-at-spec : {M : Type 1} → statement M

@@ -1,11 +1,11 @@
 -- `row_at` meets its contract.
 use borrow.Author.Rules.{rules}
-use Rattle.book.specs.Rows.{gradeIn}
+use Rattle.book.specs.Rows.{grade_in}
 use Rattle.book.proofs.reader.row_at.Statement.{statement}
 use Rattle.book.proofs.reader.row_at.Tie as tie
 
 returns : tie.Need-returns
-unfolding gradeIn
+unfolding grade_in
 returns c =
     let third = c.before in
     let second = third.before in

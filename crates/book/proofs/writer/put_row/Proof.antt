@@ -1,8 +1,8 @@
 -- `put_row` meets its contract.
 use mathlib.Core.Path.{◌∙◌}
 use borrow.Author.Rules.{rules}
-use Rattle.book.specs.Private.{gradeOf}
-use Rattle.book.proofs.Books.{grade-stored}
+use Rattle.book.specs.Private.{grade_of}
+use Rattle.book.proofs.Books.{grade_stored}
 use Rattle.book.proofs.writer.put_row.Statement.{statement}
 use Rattle.book.proofs.writer.put_row.Tie as tie
 
@@ -12,7 +12,7 @@ returns c =
     let second = third.before.before.before.before in
     let first = second.before.before.before.before in
     let a = first.before.before.before.args in
-    third.put-four3.ensures ∙ rw (second.put-four2.ensures, first.put_four.ensures) (grade-stored _ _ (gradeOf a.r))
+    third.put-four3.ensures ∙ rw (second.put-four2.ensures, first.put_four.ensures) (grade_stored _ _ (grade_of a.r))
 
 pub put-row-spec : {M : Type 1} → statement M
 put-row-spec =

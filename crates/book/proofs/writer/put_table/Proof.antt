@@ -1,8 +1,8 @@
 -- `put_table` meets its contract.
 use native.Mathlib.Omega.{arith}
 use borrow.Author.Rules.{rules}
-use Rattle.table.specs.Words.{place_in, tableIn}
-use Rattle.book.proofs.Books.{length-lent, table-stored}
+use Rattle.table.specs.Words.{place_in, table_in}
+use Rattle.book.proofs.Books.{length-lent, table_stored}
 use Rattle.book.proofs.writer.put_table.Statement.{statement}
 use Rattle.book.proofs.writer.put_table.Tie as tie
 
@@ -21,7 +21,7 @@ returns c =
     let a = grades.before.before.before.before in
     let w = a.args.place.now in
     rw (third.put-rows.ensures, second.put-two2.ensures, first.put_two.ensures, grades.grades-of.ensures)
-    (table-stored _ _ (tableIn w) (place_in w).grades (length-lent w) a.requires.0.few)
+    (table_stored _ _ (table_in w) (place_in w).grades (length-lent w) a.requires.0.few)
 
 pub put-table-spec : {M : Type 1} → statement M
 put-table-spec =

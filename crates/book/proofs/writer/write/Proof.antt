@@ -5,7 +5,7 @@ use borrow.Author.Rules.{rules}
 use Rattle.table.specs.declared.Place.{Place}
 use Rattle.table.specs.Words.{place_in}
 use Rattle.book.specs.Writing.{tables_of}
-use Rattle.book.proofs.Books.{nothing, chosen, tables-are}
+use Rattle.book.proofs.Books.{nothing, chosen, tables_are}
 use Rattle.book.proofs.writer.write.Statement.{statement}
 use Rattle.book.proofs.writer.write.Tie as tie
 
@@ -18,7 +18,7 @@ second c = place_in c.before.before.before.before.before.args.second.now
 
 tables : (c : tie.After-is-loaded2) {s t : Bool} → c.is-loaded2.result ≡ s → c.before.is-loaded.result ≡ t
     → tables_of (first c) (second c) ≡ chosen (first c) (second c) s t
-tables c e f = tables-are (first c) (second c) (sym c.is-loaded2.ensures ∙ e) (sym c.before.is-loaded.ensures ∙ f)
+tables c e f = tables_are (first c) (second c) (sym c.is-loaded2.ensures ∙ e) (sym c.before.is-loaded.ensures ∙ f)
 
 returns : tie.Need-returns
 returns c =

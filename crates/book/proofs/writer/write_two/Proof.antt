@@ -4,21 +4,21 @@ use mathlib.Core.Path.{◌≡◌, sym, ap}
 use mathlib.Core.List.{[], ◌∷◌}
 use native.Mathlib.Omega.{arith}
 use borrow.Author.Rules.{rules}
-use Rattle.table.specs.Words.{tableIn}
+use Rattle.table.specs.Words.{table_in}
 use Rattle.book.specs.declared.Written.TheVariants.{Length}
-use Rattle.book.specs.Encode.{size_of, bookSize}
-use Rattle.book.proofs.Books.{fits, short, two-stored, size-two}
+use Rattle.book.specs.Encode.{size_of, book_size}
+use Rattle.book.proofs.Books.{fits, short, two_stored, size_two}
 use Rattle.book.proofs.writer.write_two.Statement.{statement}
 use Rattle.book.proofs.writer.write_two.Tie as tie
 
 -- where the second table starts, and the length of the book
-next : (c : tie.After-size-of2) → 8 + c.before.size-of.result ≡ 8 + size_of (tableIn c.before.before.before.before.before.args.first.now)
+next : (c : tie.After-size-of2) → 8 + c.before.size-of.result ≡ 8 + size_of (table_in c.before.before.before.before.before.args.first.now)
 next c = ap (λ n. 8 + n) c.before.size-of.ensures.0
 
 size : (c : tie.After-size-of2)
     → let a = c.before.before.before.before.before.args in
-    8 + c.before.size-of.result + c.size-of2.result ≡ bookSize (tableIn a.first.now ∷ tableIn a.second.now ∷ [])
-size c = rw (next c, c.size-of2.ensures.0) (sym (size-two _ _))
+    8 + c.before.size-of.result + c.size-of2.result ≡ book_size (table_in a.first.now ∷ table_in a.second.now ∷ [])
+size c = rw (next c, c.size-of2.ensures.0) (sym (size_two _ _))
 
 returns : tie.Need-returns
 returns c = let e = size c.before in short _ _ (omega arith) (omega arith)
@@ -32,7 +32,7 @@ returns-2 c =
     let s = first.before.before.before in
     fits _ s.before.before.before.before.before.args.out.now _ _ (omega arith) (omega (arith, size s)) (ap Length (size s))
     (rw (fourth.put-table2.ensures, third.put-table.ensures, second.put_two.ensures, first.put-head.ensures)
-    (two-stored _ _ _ _ _ (next s) (size s)))
+    (two_stored _ _ _ _ _ (next s) (size s)))
 
 pub write-two-spec : {M : Type 1} → statement M
 write-two-spec =

@@ -6,14 +6,14 @@ use mathlib.Core.List.{List}
 use native.Mathlib.Omega.{arith}
 use borrow.Author.Rules.{rules}
 use borrow.Author.Tests.{eqb-true, eqb-false}
-use Rattle.table.specs.Table.{defaultsIn}
+use Rattle.table.specs.Table.{defaults_in}
 use Rattle.table.specs.declared.Totals.{Totals}
-use Rattle.table.specs.Words.{place_in, tableIn}
+use Rattle.table.specs.Words.{place_in, table_in}
 use Rattle.book.proofs.Checks.{Finds, found, none, pass, over, stop, go}
-use Rattle.calls.specs.Answers.{Answer, accepted, refused, answer, pairSays}
-use Rattle.calls.specs.Private.{mixedChecks, mixedFault, pairTotals}
+use Rattle.calls.specs.Answers.{Answer, accepted, refused, answer, pair_says}
+use Rattle.calls.specs.Private.{mixed_checks, mixed_fault, pair_totals}
 use Rattle.calls.proofs.Answered.{refuses, accepts}
-use Rattle.calls.proofs.Compared.{HasTotals, totals-refused, totals-taken, hands-back}
+use Rattle.calls.proofs.Compared.{HasTotals, totals_refused, totals_taken, hands_back}
 use Rattle.calls.proofs.pair.both_totals.Statement.{statement}
 use Rattle.calls.proofs.pair.both_totals.Tie as tie
 
@@ -26,49 +26,49 @@ abbrev one : tie.After-known-told2 → tie.After-known-told
 one c = c.before.before.before.before
 
 at₁ : (c : tie.After-known-told) → HasTotals (start c.before.before.before).args.first.now c.before.ours.given.0.0
-at₁ c = let k = c.before.before.before in totals-taken _ _ k.totals.ensures (start k).requires.0 c.before.ours.given.1
+at₁ c = let k = c.before.before.before in totals_taken _ _ k.totals.ensures (start k).requires.0 c.before.ours.given.1
 
 at₂ : (c : tie.After-known-told2) → HasTotals (start (one c).before.before.before).args.second.now c.before.theirs.given.0.0
 at₂ c =
     let k = c.before.before.before in
-    totals-taken _ _ k.totals2.ensures (start (one c).before.before.before).requires.1 c.before.theirs.given.1
+    totals_taken _ _ k.totals2.ensures (start (one c).before.before.before).requires.1 c.before.theirs.given.1
 
 returns : tie.Need-returns
 returns c =
     let k = c.before.before.before in
     let h = c.before.enum_told.given.1 in
     let s = start k in
-    let e = totals-refused s.args.first.now _ k.totals.ensures h in
-    let both = pairTotals (place_in s.args.first.now) (place_in s.args.second.now) in
-    hands-back (pairSays c.handed-back.result) h c.handed-back.ensures ∙ refuses _ both (stop _ e.0 e.1) e.1
+    let e = totals_refused s.args.first.now _ k.totals.ensures h in
+    let both = pair_totals (place_in s.args.first.now) (place_in s.args.second.now) in
+    hands_back (pair_says c.handed-back.result) h c.handed-back.ensures ∙ refuses _ both (stop _ e.0 e.1) e.1
 
 returns-2 : tie.Need-returns-2
 returns-2 c =
     let k = c.before.before.before in
     let h = c.before.enum-told2.given.1 in
     let s = start k.before.before.before.before in
-    let e = totals-refused s.args.second.now _ k.totals2.ensures h in
-    let both = pairTotals (place_in s.args.first.now) (place_in s.args.second.now) in
-    hands-back (pairSays c.handed-back2.result) h c.handed-back2.ensures
+    let e = totals_refused s.args.second.now _ k.totals2.ensures h in
+    let both = pair_totals (place_in s.args.first.now) (place_in s.args.second.now) in
+    hands_back (pair_says c.handed-back2.result) h c.handed-back2.ensures
     ∙ refuses _ both (go (at₁ k.before).ready.loaded (stop _ e.0 e.1)) e.1
 
 -- The checks of both.
 
 module _ {v w : List ℕ} {a b : Totals} (s : HasTotals v a) (t : HasTotals w b) where
-  pair-refuses : (n : ℕ) → Finds (mixedChecks (tableIn v) (tableIn w)) n → (n ≡ 0 → ⊥)
-      → refused n ≡ answer (mixedFault (place_in v) (place_in w)) (pairTotals (place_in v) (place_in w))
-  pair-refuses n f z = refuses n (pairTotals (place_in v) (place_in w)) (go s.ready.loaded (go t.ready.loaded (found f))) z
+  pair_refuses : (n : ℕ) → Finds (mixed_checks (table_in v) (table_in w)) n → (n ≡ 0 → ⊥)
+      → refused n ≡ answer (mixed_fault (place_in v) (place_in w)) (pair_totals (place_in v) (place_in w))
+  pair_refuses n f z = refuses n (pair_totals (place_in v) (place_in w)) (go s.ready.loaded (go t.ready.loaded (found f))) z
 
-  pair-accepts : Finds (mixedChecks (tableIn v) (tableIn w)) 0
-      → ◌≡◌ {A = Answer (Totals × Totals)} (accepted (a, b)) (answer (mixedFault (place_in v) (place_in w)) (pairTotals (place_in v) (place_in w)))
-  pair-accepts f = accepts (go s.ready.loaded (go t.ready.loaded (found f))) (rw (s.totals, t.totals) refl)
+  pair_accepts : Finds (mixed_checks (table_in v) (table_in w)) 0
+      → ◌≡◌ {A = Answer (Totals × Totals)} (accepted (a, b)) (answer (mixed_fault (place_in v) (place_in w)) (pair_totals (place_in v) (place_in w)))
+  pair_accepts f = accepts (go s.ready.loaded (go t.ready.loaded (found f))) (rw (s.totals, t.totals) refl)
 
 returns-3 : tie.Need-returns-3
 returns-3 c =
     let k = c.before.before in
     let s = at₁ (one k) in
     let t = at₂ k in
-    pair-refuses s t 23
+    pair_refuses s t 23
     (⊎_elim
     (λ w. over (omega (arith, w.taken, s.defaults)))
     (λ w. pass (omega (arith, w.0.left, s.defaults))
@@ -81,7 +81,7 @@ two c = c.before.before.before.before
 
 defaulted : (c : tie.Else2) →
     let s = start (one (two c)).before.before.before in
-    (1 ≤ defaultsIn (tableIn s.args.first.now)) × (1 ≤ defaultsIn (tableIn s.args.second.now))
+    (1 ≤ defaults_in (table_in s.args.first.now)) × (1 ≤ defaults_in (table_in s.args.second.now))
 defaulted c =
     let b = (two c).before.theirs.given.0.0 in (
       omega (arith, c.before.before.if1.false, (at₁ (one (two c))).defaults),
@@ -94,7 +94,7 @@ returns-4 c =
     let k = two e in
     let s = at₁ (one k) in
     let t = at₂ k in
-    pair-refuses s t 24
+    pair_refuses s t 24
     (pass (defaulted e).0 (pass (defaulted e).1
     (⊎_elim
     (λ w. over (omega (arith, w.taken, s.survivors)))
@@ -110,7 +110,7 @@ returns-5 c =
     let s = at₁ (one k) in
     let t = at₂ k in
     let b = k.before.theirs.given.0.0 in
-    pair-accepts s t
+    pair_accepts s t
     (pass (defaulted e).0 (pass (defaulted e).1
     (pass (omega (arith, c.before.before.if3.false, s.survivors))
     (pass (omega (arith, eqb-false b.survivors.0 0 c.if4.false, t.survivors)) none))))

@@ -5,31 +5,31 @@ use mathlib.Core.List.{List, [], ◌∷◌}
 use native.Mathlib.Omega.{arith}
 use borrow.Author.Rules.{rules}
 use borrow.Author.Tests.{eqb-true, eqb-false, not-true, not-false}
-use Rattle.table.specs.Table.{Table, defaultsIn, survivorsIn}
+use Rattle.table.specs.Table.{Table, defaults_in, survivors_in}
 use Rattle.table.specs.declared.Totals.{Totals}
-use Rattle.table.specs.Words.{tableIn}
+use Rattle.table.specs.Words.{table_in}
 use Rattle.book.specs.Checks.{Check, equal}
 use Rattle.book.proofs.Checks.{none, same, other}
 use Rattle.cutoff.specs.Verdict.{IsVerdict}
-use Rattle.calls.specs.Calls.{compareFault, pairChecks}
-use Rattle.calls.proofs.Compared.{Taken, pair-refused, pair-taken, further}
+use Rattle.calls.specs.Calls.{compare_fault, pair_checks}
+use Rattle.calls.proofs.Compared.{Taken, pair_refused, pair_taken, further}
 use Rattle.calls.proofs.pair.compare.Statement.{statement}
 use Rattle.calls.proofs.pair.compare.Tie as tie
 
 -- 25, behind the checks of both comparisons
 abbrev rest : Table → Table → List Check
-rest t₁ t₂ = equal (defaultsIn t₁) (defaultsIn t₂) 25 ∷ equal (survivorsIn t₁) (survivorsIn t₂) 25 ∷ []
+rest t₁ t₂ = equal (defaults_in t₁) (defaults_in t₂) 25 ∷ equal (survivors_in t₁) (survivors_in t₂) 25 ∷ []
 
 abbrev start : tie.After-both-totals → tie.Start
 start c = c.before.before.before
 
 returns : tie.Need-returns
-unfolding compareFault pairChecks
+unfolding compare_fault pair_checks
 returns c =
     let k = c.before.before.before in
     let v = (start k).args.first.now in
     let w = (start k).args.second.now in
-    pair-refused v w _ k.both-totals.ensures (IsVerdict (tableIn v) (tableIn w)) (rest (tableIn v) (tableIn w)) _ c.before.enum_told.given.1
+    pair_refused v w _ k.both-totals.ensures (IsVerdict (table_in v) (table_in w)) (rest (table_in v) (table_in w)) _ c.before.enum_told.given.1
     c.refused.ensures
 
 -- the totals of both places
@@ -44,10 +44,10 @@ taken : (c : tie.After-known-told) →
     let s = start c.before.before.before in Taken s.args.first.now (a c) × Taken s.args.second.now (b c)
 taken c =
     let k = c.before.before.before in
-    pair-taken _ _ _ k.both-totals.ensures (start k).requires.0 (start k).requires.1 c.before.pair.given.1
+    pair_taken _ _ _ k.both-totals.ensures (start k).requires.0 (start k).requires.1 c.before.pair.given.1
 
 returns-2 : tie.Need-returns-2
-unfolding compareFault pairChecks
+unfolding compare_fault pair_checks
 returns-2 c =
     let k = c.before.before.before in
     let (s, t) = taken k in (
@@ -65,8 +65,8 @@ known c = c.before.before.before.before.before.before
 
 alike : (c : tie.Else2) →
     let s = start (known c).before.before.before in
-    (defaultsIn (tableIn s.args.first.now) ≡ defaultsIn (tableIn s.args.second.now))
-    × (survivorsIn (tableIn s.args.first.now) ≡ survivorsIn (tableIn s.args.second.now))
+    (defaults_in (table_in s.args.first.now) ≡ defaults_in (table_in s.args.second.now))
+    × (survivors_in (table_in s.args.first.now) ≡ survivors_in (table_in s.args.second.now))
 alike c =
     let k = known c in
     let (s, t) = taken k in (
@@ -78,7 +78,7 @@ judge-requires : tie.Need-judge-requires
 judge-requires c κs = let (s, t) = taken (known c) in ((s.answered.ready.holds, t.answered.ready.holds), alike c)
 
 returns-3 : tie.Need-returns-3
-unfolding compareFault pairChecks
+unfolding compare_fault pair_checks
 returns-3 c =
     let (s, t) = taken (known c.before) in
     let e = alike c.before in

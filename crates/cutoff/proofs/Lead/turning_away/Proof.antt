@@ -2,23 +2,23 @@
 use mathlib.Core.Path.{◌≡◌, sym, ◌∙◌}
 use native.Mathlib.Omega.{arith}
 use borrow.Author.Tests.{not-true, not-false}
-use Rattle.cutoff.specs.Sweep.{scaleIn, countsIn, Leads}
-use Rattle.cutoff.proofs.Odds.{rising-odds}
-use Rattle.cutoff.proofs.Held.{gradeBefore}
-use Rattle.cutoff.proofs.Leads.{few-next, ahead-fits}
-use Rattle.cutoff.proofs.Sweep.{Turn, turn, turn-counted, turn-counts, few-in}
-use Rattle.cutoff.proofs.Sweep.{Turning, turning-starts, turning-ended, turning-small, turning-stops, turning-on}
+use Rattle.cutoff.specs.Sweep.{scale_in, counts_in, Leads}
+use Rattle.cutoff.proofs.Odds.{rising_odds}
+use Rattle.cutoff.proofs.Held.{grade_before}
+use Rattle.cutoff.proofs.Leads.{few_next, ahead_fits}
+use Rattle.cutoff.proofs.Sweep.{Turn, turn, turn_counted, turn_counts, few_in}
+use Rattle.cutoff.proofs.Sweep.{Turning, turning_starts, turning_ended, turning_small, turning_stops, turning_on}
 use Rattle.cutoff.proofs.Lead.turning_away.Statement.{statement}
 use Rattle.cutoff.proofs.Lead.turning_away.Tie as tie
 
 abbrev invariant-loop : tie.invariant-loop
-invariant-loop blocks weights at lead₀ lead = Turning weights at (scaleIn blocks) lead₀ lead
+invariant-loop blocks weights at lead₀ lead = Turning weights at (scale_in blocks) lead₀ lead
 
 abbrev decreases-loop : tie.decreases-loop
 decreases-loop blocks weights at lead₀ lead = lead.from
 
 loop-holds : tie.Need-loop-init invariant-loop decreases-loop
-loop-holds c = let pre = c.before.requires in turning-starts pre.0.1.1 pre.1.0
+loop-holds c = let pre = c.before.requires in turning_starts pre.0.1.1 pre.1.0
 
 -- The lead in hand.
 
@@ -28,7 +28,7 @@ start l = l.before.before
 leads : (l : tie.At-loop invariant-loop decreases-loop) →
     let s = start l in
     let i = s.pre.0.1.1 in
-    Leads s.args.weights (scaleIn s.args.blocks.now) l.loop.invariant.accepted i.caught i.lost l.loop.lead
+    Leads s.args.weights (scale_in s.args.blocks.now) l.loop.invariant.accepted i.caught i.lost l.loop.lead
 leads l = let i = (start l).requires.0.1.1 in l.loop.invariant.leads i.accepted i.caught i.lost i.leads
 
 -- The block that a turn looks at, and what it counts.
@@ -43,25 +43,25 @@ at c = let l = c.before.before in turn (start l).requires.0.0 l.loop.invariant.f
 
 next : (c : tie.After-counts invariant-loop decreases-loop) →
     let l = (top c).before.before in
-    c.counts.result ≡ countsIn (start l).args.weights (gradeBefore (scaleIn (start l).args.blocks.now) l.loop.inv.accepted)
-next c = let l = (top c).before.before in turn-counts (at (top c)) c.before.block_at.ensures (start l).args.weights c.counts.ensures
+    c.counts.result ≡ counts_in (start l).args.weights (grade_before (scale_in (start l).args.blocks.now) l.loop.inv.accepted)
+next c = let l = (top c).before.before in turn_counts (at (top c)) c.before.block_at.ensures (start l).args.weights c.counts.ensures
 
 counts-requires : tie.Need-counts-requires invariant-loop decreases-loop
 counts-requires c κs =
     let t = c.before.before in
-    ((start t.before.before).pre.0.1.0, turn-counted (at t) c.block_at.ensures)
+    ((start t.before.before).pre.0.1.0, turn_counted (at t) c.block_at.ensures)
 
 turns-away-requires : tie.Need-turns-away-requires invariant-loop decreases-loop
 turns-away-requires c κs =
     let l = (top c).before.before in
-    turning-small l.loop.inv (at (top c)).here (next c) (start l).pre.1.1
+    turning_small l.loop.inv (at (top c)).here (next c) (start l).pre.1.1
 
 returns : tie.Need-returns invariant-loop decreases-loop
 returns c =
     let n = c.before.before in
     let l = (top n).before.before in
     let known = (start l).pre.0.0 in
-    turning-stops l.loop.inv (at (top n)).here (next n) (rising-odds _ known.rising known.counted)
+    turning_stops l.loop.inv (at (top n)).here (next n) (rising_odds _ known.rising known.counted)
     (sym c.before.turns-away.ensures ∙ not-true _ c.if2.true)
 
 with-requires : tie.Need-with-requires invariant-loop decreases-loop
@@ -70,9 +70,9 @@ with-requires c κs =
     let l = (top n).before.before in
     let s = start l in
     let i = s.pre.0.1.1 in
-    let few = few-in s.args.weights s.pre.0.0 s.pre.0.1.0 in
+    let few = few_in s.args.weights s.pre.0.0 s.pre.0.1.0 in
     let here = (at (top n)).here in
-    ((at (top n)).words.high, rw (next n) (few-next s.args.weights here few, ahead-fits (leads l) here few i.few-caught i.few-lost))
+    ((at (top n)).words.high, rw (next n) (few_next s.args.weights here few, ahead_fits (leads l) here few i.few_caught i.few_lost))
 
 loop-less : tie.Need-loop-smaller invariant-loop decreases-loop
 loop-less c = let n = c.before.before.before in rw c.with.ensures (omega (arith, (at (top n)).words.high))
@@ -81,11 +81,11 @@ loop-again : tie.Need-loop-preserved invariant-loop decreases-loop
 loop-again c =
     let n = c.before.before.before in
     let l = (top n).before.before in
-    turning-on l.loop.inv (at (top n)).here (next n) (at (top n)).words.some
+    turning_on l.loop.inv (at (top n)).here (next n) (at (top n)).words.some
     (sym c.before.before.turns-away.ensures ∙ not-false _ c.before.if2.false) c.with.ensures
 
 returns-2 : tie.Need-returns-2 invariant-loop decreases-loop
-returns-2 c = let l = c.before.before in turning-ended l.loop.invariant (omega (arith, l.loop.invariant.fewer, (leads l).from, c.if1.false))
+returns-2 c = let l = c.before.before in turning_ended l.loop.invariant (omega (arith, l.loop.invariant.fewer, (leads l).from, c.if1.false))
 
 pub turning-away-spec : {M : Type 1} → statement M
 turning-away-spec =

@@ -1,23 +1,23 @@
 -- `compare_shares` meets its contract.
 use mathlib.Core.Path.{refl}
 use borrow.Author.Rules.{rules}
-use Rattle.calls.specs.Answers.{compareSays}
+use Rattle.calls.specs.Answers.{compare_says}
 use Rattle.calls.specs.Shares.{ComparedByShares}
-use Rattle.desk.proofs.Asked.{both-places, of-both}
+use Rattle.desk.proofs.Asked.{both_places, of_both}
 use Rattle.desk.proofs.Desk.compare_shares.Statement.{statement}
 use Rattle.desk.proofs.Desk.compare_shares.Tie as tie
 
 compare-shares-requires : tie.Need-compare-shares-requires
 compare-shares-requires c κs =
     let a = c.before.before.before.before in
-    both-places a.args.self a.requires c.before.before.before.pooled-words.ensures c.before.before.pooled-words2.ensures
+    both_places a.args.self a.requires c.before.before.before.pooled-words.ensures c.before.before.pooled-words2.ensures
 
 returns : tie.Need-returns
 returns c =
     let a = c.before.before.before.before.before in (
       refl,
-      of-both a.args.self a.requires c.before.before.before.before.pooled-words.ensures c.before.before.before.pooled-words2.ensures
-          (λ p q. ComparedByShares p q (compareSays c.compare-shares.result)) c.compare-shares.ensures,
+      of_both a.args.self a.requires c.before.before.before.before.pooled-words.ensures c.before.before.before.pooled-words2.ensures
+          (λ p q. ComparedByShares p q (compare_says c.compare-shares.result)) c.compare-shares.ensures,
     )
 
 pub compare-shares-spec : {M : Type 1} → statement M

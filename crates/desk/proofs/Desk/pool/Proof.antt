@@ -7,7 +7,7 @@ use Rattle.calls.specs.Answers.{answer}
 use Rattle.calls.specs.Calls.{pool}
 use Rattle.calls.proofs.Answered.{refuses, left_alone}
 use Rattle.desk.proofs.Number.{there, missing}
-use Rattle.desk.proofs.Asked.{words-pooled, fill-number, fill-buffer}
+use Rattle.desk.proofs.Asked.{words_pooled, fill_number, fill_buffer}
 use Rattle.desk.proofs.Desk.pool.Statement.{statement}
 use Rattle.desk.proofs.Desk.pool.Tie as tie
 
@@ -20,7 +20,7 @@ pool-requires : tie.Need-pool-requires
 pool-requires c κs =
     let w = c.before.before in
     let a = w.before.before.before.before in
-    words-pooled _ a.args.place a.requires w.pooled-words.ensures
+    words_pooled _ a.args.place a.requires w.pooled-words.ensures
 
 returns-2 : tie.Need-returns-2
 returns-2 c =
@@ -29,9 +29,9 @@ returns-2 c =
     let l = w.before in
     let a = l.before.before.before in
     let here = there a.args.place _ l.before.is-place.ensures l.if1.false in
-    let n = fill-number _ a.args.place a.requires w.pooled-words.ensures here pool a.args.out.now p.pool.ensures.0 in (
+    let n = fill_number _ a.args.place a.requires w.pooled-words.ensures here pool a.args.out.now p.pool.ensures.0 in (
       refl,
-      (fill-buffer _ a.args.place a.requires w.pooled-words.ensures here pool a.args.out.now p.pool.ensures.0 p.pool.ensures.1, c.of.ensures ∙ ap (λ (m : ℕ). answer m tt) n),
+      (fill_buffer _ a.args.place a.requires w.pooled-words.ensures here pool a.args.out.now p.pool.ensures.0 p.pool.ensures.1, c.of.ensures ∙ ap (λ (m : ℕ). answer m tt) n),
     )
 
 pub pool-spec : {M : Type 1} → statement M

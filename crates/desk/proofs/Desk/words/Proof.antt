@@ -3,7 +3,7 @@ use mathlib.Core.Path.{◌∙◌, refl, sym, ap}
 use mathlib.Core.Bool.{Bool, cond}
 use borrow.Author.Tests.{ne_eqb}
 use Rattle.table.specs.Words.{words_of}
-use Rattle.pooled_place.proofs.Words.{sound-place}
+use Rattle.pooled_place.proofs.Words.{sound_place}
 use Rattle.desk.proofs.Desk.words.Statement.{statement}
 use Rattle.desk.proofs.Desk.words.Tie as tie
 
@@ -20,7 +20,7 @@ pub words-spec : {M : Type 1} → statement M
 words-spec =
     tie.close
     (tie.spec
-    (λ c κs. sound-place c.before.before.before.requires.first)
-    (λ c κs. sound-place c.before.before.before.requires.second)
+    (λ c κs. sound_place c.before.before.before.requires.first)
+    (λ c κs. sound_place c.before.before.before.requires.second)
     returns
     returns-2)

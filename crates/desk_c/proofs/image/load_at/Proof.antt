@@ -6,14 +6,14 @@ use borrow.Author.Rules.{rules}
 use borrow.Rule.Slice.PartMut.{put_mid}
 use lib.ListN.{take, drop}
 use Rattle.table.specs.Words.{place_in}
-use Rattle.book.specs.Rows.{tableOfRater}
-use Rattle.pooled_place.specs.PooledPlace.{pooledPlaceOf}
-use Rattle.pooled_place.specs.Words.{pooledPlaceWords}
+use Rattle.book.specs.Rows.{table_of_rater}
+use Rattle.pooled_place.specs.PooledPlace.{pooled_place_of}
+use Rattle.pooled_place.specs.Words.{pooled_place_words}
 use Rattle.calls.specs.Answers.{leaves}
-use Rattle.calls.specs.Calls.{load, changeFault}
-use Rattle.desk.proofs.Soundness.{load-sound}
+use Rattle.calls.specs.Calls.{load, change_fault}
+use Rattle.desk.proofs.Soundness.{load_sound}
 use Rattle.calls.specs.Private.{Fillable}
-use Rattle.desk_c.proofs.Parts.{span, part-changed}
+use Rattle.desk_c.proofs.Parts.{span, part_changed}
 use Rattle.desk_c.proofs.image.load_at.Statement.{statement}
 use Rattle.desk_c.proofs.image.load_at.Tie as tie
 
@@ -24,9 +24,9 @@ returns c =
     let w = a.args.desk.now in
     let s = span a.args.at in
     let part = ap (λ (n : ℕ). take n (drop a.args.at w)) s in
-    let n = f.ensures.0 ∙ ap (λ (x : List ℕ). changeFault (place_in x) (load a.args.book.now a.args.rater)) part in
-    let new = f.ensures.1 ∙ ap (λ (x : List ℕ). leaves f.result x (pooledPlaceWords (pooledPlaceOf (tableOfRater a.args.book.now a.args.rater)))) part in
-    (n, ap (λ (k : ℕ). put_mid a.args.at k w f.new.0) s ∙ part-changed w a.args.at f.result _ (λ z. load-sound _ a.args.book.now a.args.rater (sym f.ensures.0 ∙ z)) new)
+    let n = f.ensures.0 ∙ ap (λ (x : List ℕ). change_fault (place_in x) (load a.args.book.now a.args.rater)) part in
+    let new = f.ensures.1 ∙ ap (λ (x : List ℕ). leaves f.result x (pooled_place_words (pooled_place_of (table_of_rater a.args.book.now a.args.rater)))) part in
+    (n, ap (λ (k : ℕ). put_mid a.args.at k w f.new.0) s ∙ part_changed w a.args.at f.result _ (λ z. load_sound _ a.args.book.now a.args.rater (sym f.ensures.0 ∙ z)) new)
 
 pub load-at-spec : {M : Type 1} → statement M
 load-at-spec =

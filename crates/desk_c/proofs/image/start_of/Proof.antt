@@ -3,7 +3,7 @@ use Prim.Native.Nat.{ℕ, ◌-◌, ◌*◌, ◌≤◌}
 use mathlib.Core.Path.{◌≡◌, refl, ap, ◌∙◌}
 use native.Mathlib.Omega.{arith}
 use borrow.Author.Rules.{rules}
-use Rattle.desk.specs.Calls.{placeFault}
+use Rattle.desk.specs.Calls.{place_fault}
 use Rattle.desk.proofs.Number.{Number, one, two, neither, number}
 use Rattle.desk_c.specs.Private.{start_of}
 use Rattle.desk_c.proofs.image.start_of.Statement.{statement}
@@ -14,7 +14,7 @@ record Numbered (i : ℕ) : Type 0 where
   pub to : i ≤ 2
   pub start : (i - 1) * 242 ≡ start_of i
 
-numbered : {i : ℕ} → Number i → placeFault i ≡ 0 → Numbered i
+numbered : {i : ℕ} → Number i → place_fault i ≡ 0 → Numbered i
 numbered one e = record { from = omega arith; to = omega arith; start = refl }
 numbered two e = record { from = omega arith; to = omega arith; start = refl }
 numbered (neither _ _ k) e = absurd (omega (arith, k, e))

@@ -6,12 +6,12 @@ use Rattle.spread.specs.Spread.{IsSpread}
 use Rattle.spread.proofs.Plain.{is_number}
 use Rattle.calls.specs.declared.SpreadAnswer.{SpreadAnswer}
 use Rattle.calls.specs.declared.SpreadAnswer.TheVariants.{Spread, Refused}
-use Rattle.calls.specs.Answers.{Limited, spreadSays}
+use Rattle.calls.specs.Answers.{Limited, spread_says}
 use Rattle.answers.specs.Answers.{Plain}
 use Rattle.replay.proofs.commands.spread.Statement.{statement}
 use Rattle.replay.proofs.commands.spread.Tie as tie
 
-printable : (n : ℕ) (t : Table) (r : SpreadAnswer) → Limited n (IsSpread t) (spreadSays r) → Plain r
+printable : (n : ℕ) (t : Table) (r : SpreadAnswer) → Limited n (IsSpread t) (spread_says r) → Plain r
 printable n t (Spread s) h =
     let is = h.1 in
     record { total = is_number s.total is.total.sign; residual = is_number s.residual is.residual.sign }

@@ -4,18 +4,18 @@ use mathlib.Core.Path.{◌≡◌}
 use mathlib.Core.Bool.{Bool, true, false}
 use mathlib.Core.List.{List}
 use native.Mathlib.Omega.{arith}
-use Rattle.table.specs.Table.{defaultsIn, survivorsIn}
-use Rattle.cutoff.specs.Verdict.{neverDearer}
-use Rattle.cutoff.specs.Sweep.{scaleIn, Sweepable}
-use Rattle.shortlist.specs.Private.{held_of, blocksHeld, scale_at, Searchable, winnerOf}
+use Rattle.table.specs.Table.{defaults_in, survivors_in}
+use Rattle.cutoff.specs.Verdict.{never_dearer_lem}
+use Rattle.cutoff.specs.Sweep.{scale_in, Sweepable}
+use Rattle.shortlist.specs.Private.{held_of, blocks_held, scale_at, Searchable, winner_of}
 use Rattle.shortlist.proofs.beaten.better_of.Statement.{statement}
 use Rattle.shortlist.proofs.beaten.better_of.Tie as tie
 
 -- Words that are the blocks of raters q and r can be searched.
 comparable : {held : List ℕ} {n : ℕ} → Searchable held n → (q r : ℕ) → q < n → r < n
-    → {u v : List ℕ} → u ≡ blocksHeld (held_of held q) → v ≡ blocksHeld (held_of held r)
-    → (Sweepable u × Sweepable v) × ((defaultsIn (scaleIn u) ≡ defaultsIn (scaleIn v)) × (survivorsIn (scaleIn u) ≡ survivorsIn (scaleIn v)))
-comparable s q r l m e f = rw (e, f) ((s.sweepable q l, s.sweepable r m), (s.same-defaults q r l m, s.same-survivors q r l m))
+    → {u v : List ℕ} → u ≡ blocks_held (held_of held q) → v ≡ blocks_held (held_of held r)
+    → (Sweepable u × Sweepable v) × ((defaults_in (scale_in u) ≡ defaults_in (scale_in v)) × (survivors_in (scale_in u) ≡ survivors_in (scale_in v)))
+comparable s q r l m e f = rw (e, f) ((s.sweepable q l, s.sweepable r m), (s.same_defaults q r l m, s.same_survivors q r l m))
 
 blocks-at-requires : tie.Need-blocks-at-requires
 blocks-at-requires c κs =
@@ -36,19 +36,19 @@ never-dearer-requires c κs =
 
 -- the other way round
 back : (c : tie.After-blocks-at2) → let u = c.blocks-at2.result.now in let v = c.before.blocks_at.result.now in
-    (Sweepable u × Sweepable v) × ((defaultsIn (scaleIn u) ≡ defaultsIn (scaleIn v)) × (survivorsIn (scaleIn u) ≡ survivorsIn (scaleIn v)))
+    (Sweepable u × Sweepable v) × ((defaults_in (scale_in u) ≡ defaults_in (scale_in v)) × (survivors_in (scale_in u) ≡ survivors_in (scale_in v)))
 back c =
     let a = c.before.before.before in
     comparable a.requires.1 a.args.j a.args.i (omega arith) (omega arith) c.blocks-at2.ensures c.before.blocks_at.ensures
 
 -- What both searches say decides, y the second one.
 decided : (c : tie.After-never-dearer) {y : Bool}
-    → y ≡ neverDearer (scaleIn c.before.blocks-at2.result.now) (scaleIn c.before.before.blocks_at.result.now)
+    → y ≡ never_dearer_lem (scale_in c.before.blocks-at2.result.now) (scale_in c.before.before.blocks_at.result.now)
     → (a b : Bool) → c.never-dearer.result ≡ a → y ≡ b →
     let args = c.before.before.before.before.args in
     let first = scale_at args.held.now args.i in
     let second = scale_at args.held.now args.j in
-    winnerOf a b ≡ winnerOf (neverDearer first second) (neverDearer second first)
+    winner_of a b ≡ winner_of (never_dearer_lem first second) (never_dearer_lem second first)
 decided c q a b g h =
     rw (← c.before.before.blocks_at.ensures, ← c.before.blocks-at2.ensures, ← c.never-dearer.ensures, ← q, g, h)
 

@@ -7,7 +7,7 @@ use lib.ListN.{length, length-set}
 use Rattle.shortlist.specs.Private.{beats, compared}
 use Rattle.shortlist.specs.declared.beaten.Winner.{Winner}
 use Rattle.shortlist.specs.declared.beaten.Winner.TheVariants.{First, Second, Neither}
-use Rattle.shortlist.proofs.Compared.{first-beats, second-beats, wonBy, skipped, won}
+use Rattle.shortlist.proofs.Compared.{first_beats, second_beats, won_by, skipped, won}
 use Rattle.shortlist.proofs.beaten.compare_with.Statement.{statement}
 use Rattle.shortlist.proofs.beaten.compare_with.Tie as tie
 
@@ -38,14 +38,14 @@ better-of-requires c κs = (c.before.before.loop-test.true, c.before.before.befo
 turn : (c : tie.After-better-of invariant-loop decreases-loop) (w : Winner) → c.better-of.result ≡ w →
     let a = c.before.before.before.before.before.before.args in
     let l = c.before.before.before.before.loop in
-    wonBy (beats a.held.now) a.j l.i l.marks w ≡ compared (beats a.held.now) a.j a.j 0 a.marks.now
+    won_by (beats a.held.now) a.j l.i l.marks w ≡ compared (beats a.held.now) a.j a.j 0 a.marks.now
 turn c w e =
     let a = c.before.before.before.before.before.before.args in
     let l = c.before.before.before.before.loop in
     let held = a.held.now in
     let says = rw e at c.better-of.ensures in
     won (beats held) a.j l.i l.marks c.before.before.before.loop-test.true c.before.if1.false w
-    (first-beats held l.i a.j says) (second-beats held l.i a.j says)
+    (first_beats held l.i a.j says) (second_beats held l.i a.j says)
     ∙ l.invariant.2
 
 returns : tie.Need-returns invariant-loop decreases-loop

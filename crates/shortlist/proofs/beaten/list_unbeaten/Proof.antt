@@ -5,19 +5,19 @@ use native.Mathlib.Numerals.{add-one}
 use native.Mathlib.Omega.{arith}
 use borrow.Author.Rules.{rules}
 use lib.ListN.{length}
-use Rattle.shortlist.specs.Private.{beats, allCompared}
+use Rattle.shortlist.specs.Private.{beats, all_compared}
 use Rattle.shortlist.proofs.Compared.{fewer}
 use Rattle.shortlist.proofs.beaten.list_unbeaten.Statement.{statement}
 use Rattle.shortlist.proofs.beaten.list_unbeaten.Tie as tie
 
 abbrev invariant-loop : tie.invariant-loop
-invariant-loop held raters out marks₀ j₀ marks j = (j ≤ raters) × (length marks ≡ 16) × (marks ≡ allCompared (beats held) j)
+invariant-loop held raters out marks₀ j₀ marks j = (j ≤ raters) × (length marks ≡ 16) × (marks ≡ all_compared (beats held) j)
 
 abbrev decreases-loop : tie.decreases-loop
 decreases-loop held raters out marks₀ j₀ marks j = raters - j
 
 loop-holds : tie.Need-loop-init invariant-loop decreases-loop
-unfolding allCompared
+unfolding all_compared
 loop-holds c = (omega arith, refl, refl)
 
 compare-with-requires : tie.Need-compare-with-requires invariant-loop decreases-loop
@@ -26,7 +26,7 @@ compare-with-requires c κs =
     (l.invariant.1, fewer c.before.before.before.before.before.requires.0 _ (omega (arith, c.before.before.loop-test.true)))
 
 loop-again : tie.Need-loop-preserved invariant-loop decreases-loop
-unfolding allCompared
+unfolding all_compared
 loop-again c =
     let l = c.before.before.before.before.loop in (
       omega (arith, c.before.before.before.loop-test.true),
@@ -45,7 +45,7 @@ returns c =
     let a = c.before.before.before.before.before.before.before.before.args in
     let l = c.before.before.before.before.before.before.loop in
     let e : l.j ≡ a.raters = omega (arith, c.before.before.before.before.before.loop-test.false, l.invariant.0) in
-    let m : l.marks ≡ allCompared (beats a.held.now) a.raters = rw e at l.invariant.2 in
+    let m : l.marks ≡ all_compared (beats a.held.now) a.raters = rw e at l.invariant.2 in
     rw m at w
 
 pub list-unbeaten-spec : {M : Type 1} → statement M

@@ -8,7 +8,7 @@ use borrow.Author.Tests.{eq-eqb, ne_eqb}
 use lib.Dec.{eqb}
 use lib.ListN.{length, take, length-take}
 use lib.Seq.{get_or-take}
-use Rattle.shortlist.proofs.Writing.{Listing, none-listed, length-listed, passed_over, put-down, all_listed}
+use Rattle.shortlist.proofs.Writing.{Listing, none_listed, length-listed, passed_over, put_down, all_listed}
 use Rattle.shortlist.proofs.beaten.write_list.Statement.{statement}
 use Rattle.shortlist.proofs.beaten.write_list.Tie as tie
 
@@ -37,7 +37,7 @@ loop-again c =
     let a = c.before.before.before.before.args in
     let l = c.before.before.loop-test.true in
     let n = count c.before.before.before.before in
-    put-down _ _ _ _ _ _ c.before.before.before.loop.invariant n.1 (omega arith)
+    put_down _ _ _ _ _ _ c.before.before.before.loop.invariant n.1 (omega arith)
     (rw (get_or-take a.raters a.marks.now _ 0 l) (eq-eqb _ 0 c.if1.true))
 
 loop-again-2 : tie.Need-loop-preserved-2 invariant-loop decreases-loop
@@ -62,7 +62,7 @@ write-list-spec =
     (tie.spec
     invariant-loop
     decreases-loop
-    (λ c. none-listed none _ _)
+    (λ c. none_listed none _ _)
     (λ c. search rules)
     (λ c. search rules)
     (λ c. search rules)

@@ -4,7 +4,7 @@ use mathlib.Core.Path.{◌≡◌, ap, ◌∙◌}
 use native.Mathlib.Omega.{arith}
 use borrow.Author.Rules.{rules}
 use lib.ListN.{length, get_or, take, drop}
-use Rattle.shortlist.specs.Private.{blocksHeld}
+use Rattle.shortlist.specs.Private.{blocks_held}
 use Rattle.shortlist.proofs.Held.{length-held}
 use Rattle.shortlist.proofs.scales.blocks_at.Statement.{statement}
 use Rattle.shortlist.proofs.scales.blocks_at.Tie as tie
@@ -23,7 +23,7 @@ returns : tie.Need-returns
 returns c =
     let w = c.before.wide in
     let s = c.before.before.before.scale_of in
-    ap (λ (n : ℕ). take (120 - n) (drop n s.result.now)) w.ensures ∙ ap blocksHeld s.ensures
+    ap (λ (n : ℕ). take (120 - n) (drop n s.result.now)) w.ensures ∙ ap blocks_held s.ensures
 
 pub blocks-at-spec : {M : Type 1} → statement M
 blocks-at-spec =

@@ -1,7 +1,7 @@
 -- `read_scale` meets its contract.
 use mathlib.Core.Path.{sym, ◌∙◌}
 use borrow.Author.Rules.{rules}
-use Rattle.book.specs.Rows.{tableFrom}
+use Rattle.book.specs.Rows.{table_from}
 use Rattle.shortlist.proofs.Read.{Stored, stored}
 use Rattle.shortlist.proofs.scales.read_scale.Statement.{statement}
 use Rattle.shortlist.proofs.scales.read_scale.Tie as tie
@@ -15,7 +15,7 @@ returns c =
 read : (c : tie.Else1) →
     let r = c.before.before in
     let a = r.before.before.before.before.args in
-    Stored r.read_table.new.1.1.0 (tableFrom a.book.now a.start)
+    Stored r.read_table.new.1.1.0 (table_from a.book.now a.start)
 read c =
     let r = c.before.before in
     let p = r.before.before.before.before.requires.0 in

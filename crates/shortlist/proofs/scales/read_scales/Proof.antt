@@ -7,7 +7,7 @@ use mathlib.Core.List.{List}
 use borrow.Rule.Slice.PartMut.{put_mid, same_len_mid}
 use lib.ListN.{length, length-take, length-drop}
 use Rattle.book.specs.Layout.{raters, start_of}
-use Rattle.book.specs.Rows.{tableFrom, tableOfRater, tableFault}
+use Rattle.book.specs.Rows.{table_from, table_of_rater, table_fault_lem}
 use Rattle.book.proofs.Stands.{Stands}
 use Rattle.book.proofs.Whole.{laid}
 use Rattle.shortlist.proofs.Reading.{Reading, none_read, ends, goes, all_read}
@@ -61,8 +61,8 @@ module _ (c : tie.After-read-scale invariant-loop decreases-loop) where
   abbrev turn : tie.In-loop invariant-loop decreases-loop
   turn = c.before.before.before
 
-  fault-is : c.read-scale.result ≡ tableFault (tableOfRater (book turn) (suc (at turn).loop.rater))
-  fault-is = c.read-scale.ensures.0 ∙ ap (λ (s : ℕ). tableFault (tableFrom (book turn) s)) (starts c.before.before)
+  fault_is : c.read-scale.result ≡ table_fault_lem (table_of_rater (book turn) (suc (at turn).loop.rater))
+  fault_is = c.read-scale.ensures.0 ∙ ap (λ (s : ℕ). table_fault_lem (table_from (book turn) s)) (starts c.before.before)
 
   kept : length (put_mid (123 * (at turn).loop.rater) (123 * (at turn).loop.rater + 123 - 123 * (at turn).loop.rater) (at turn).loop.held c.read-scale.new.1.1.0) ≡ 1968
   kept =
@@ -76,7 +76,7 @@ returns : tie.Need-returns invariant-loop decreases-loop
 returns c =
     let r = c.before.before.before in
     let t = turn r in
-    (ends _ _ _ (at t).loop.inv.1 (more t) _ (fault-is r) c.if1.true, (λ z. absurd (c.if1.true z), kept r))
+    (ends _ _ _ (at t).loop.inv.1 (more t) _ (fault_is r) c.if1.true, (λ z. absurd (c.if1.true z), kept r))
 
 loop-again : tie.Need-loop-preserved invariant-loop decreases-loop
 loop-again c =
@@ -85,7 +85,7 @@ loop-again c =
     let z = c.if1.false in (
       (at t).loop.inv.0,
       rw (add-one (at t).loop.rater)
-          (goes _ _ _ (at t).loop.inv.1 (more t) r.read-scale.new.1.1.0 _ (sym (fault-is r) ∙ z) (rw (starts r.before.before) at (r.read-scale.ensures.1.0 z)) (kept r)),
+          (goes _ _ _ (at t).loop.inv.1 (more t) r.read-scale.new.1.1.0 _ (sym (fault_is r) ∙ z) (rw (starts r.before.before) at (r.read-scale.ensures.1.0 z)) (kept r)),
     )
 
 returns-2 : tie.Need-returns-2 invariant-loop decreases-loop

@@ -4,20 +4,20 @@ use mathlib.Core.Path.{◌≡◌}
 use native.Mathlib.Omega.{arith}
 use borrow.Author.Rules.{rules}
 use lib.ListN.{length}
-use Rattle.shortlist.specs.Private.{held_of, totalsHeld, faultsFrom}
-use Rattle.shortlist.proofs.Held.{faults-end, faults-down}
+use Rattle.shortlist.specs.Private.{held_of, totals_held, faults_from}
+use Rattle.shortlist.proofs.Held.{faults_end, faults_down}
 use Rattle.shortlist.proofs.scales.totals_fault.Statement.{statement}
 use Rattle.shortlist.proofs.scales.totals_fault.Tie as tie
 
 abbrev invariant-loop : tie.invariant-loop
 invariant-loop held raters first found₀ rater₀ found rater =
-    (rater ≤ raters) × (found ≡ faultsFrom held (totalsHeld (held_of held 0)) rater (raters - rater))
+    (rater ≤ raters) × (found ≡ faults_from held (totals_held (held_of held 0)) rater (raters - rater))
 
 abbrev decreases-loop : tie.decreases-loop
 decreases-loop held raters first found₀ rater₀ found rater = rater
 
 loop-holds : tie.Need-loop-init invariant-loop decreases-loop
-loop-holds c = (omega arith, faults-end _ _ _ _ (omega arith))
+loop-holds c = (omega arith, faults_end _ _ _ _ (omega arith))
 
 here : (c : tie.In-loop invariant-loop decreases-loop) → (length c.before.before.before.before.args.held.now ≡ 1968) × (c.before.loop.rater - 1 < 16)
 here c = let p = c.before.before.before.before.requires in (p.0, omega (arith, p.1, c.before.loop.invariant.0))
@@ -29,7 +29,7 @@ loop-again c =
     let first = c.before.before.before.before.before.of.ensures in
     let here = c.before.before.of2.ensures in (
       omega (arith, l.invariant.0),
-      faults-down s.args.held.now _ l.rater s.args.raters (omega arith) l.invariant.0 l.invariant.1
+      faults_down s.args.held.now _ l.rater s.args.raters (omega arith) l.invariant.0 l.invariant.1
           (rw (first, here) at c.before.fault-beside.ensures) c.sooner.ensures,
     )
 
