@@ -1,4 +1,6 @@
 // The line of each answer, without its line feed.
+#![tactic(auto)]
+
 ghost use Rattle.answers.specs.Answers.{Numbers, Plain};
 
 use book::Written;

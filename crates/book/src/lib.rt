@@ -1,4 +1,6 @@
 // The book of grade tables (document 01's "The book"): the table of a rater is read out of it, and tables are written as one.
+#![tactic(auto)]
+
 ghost use Rattle.book.specs.Claims.{Claims};
 
 mod bytes;
@@ -12,14 +14,14 @@ use table::Obligors;
 pub use writer::write;
 
 // The length of the book that was written, or a refusal number.
-#[derive(Drop)]
+#[derive(Clone, Copy)]
 pub enum Written {
     Length(u32),
     Refused(u32),
 }
 
 // A row of a table in a book: one grade.
-#[derive(Drop)]
+#[derive(Clone, Copy)]
 pub struct Row {
     pub obligors: Obligors,
     pub defaults: u32,

@@ -1,5 +1,7 @@
 // The calls on one place, over its words: every check but that of the place's number, and then the work. The two comparisons, which ask two
 // places, are in `pair`.
+#![tactic(auto)]
+
 ghost use Rattle.std.specs.Prelude.{◌≡◌, length};
 ghost use Rattle.table.specs.Counts.{totals_of_lem};
 ghost use Rattle.table.specs.Place.{table_of};
@@ -27,45 +29,45 @@ use refusals::{HIGH_PRICE, NO_DEFAULTS, NO_SURVIVORS, PLACE_EMPTY, PLACE_LOADED,
 use spread::Spread;
 use table::{PLACE, Totals, is_loaded, put_numbers};
 
-#[derive(Drop)]
+#[derive(Clone, Copy)]
 pub enum CheapestAnswer {
     Cheapest(CheapestCutoff),
     Refused(u32),
 }
 
-#[derive(Drop)]
+#[derive(Clone, Copy)]
 pub enum CompareAnswer {
     Verdict(Verdict),
     Refused(u32),
 }
 
-#[derive(Drop)]
+#[derive(Clone, Copy)]
 pub enum MeasuresAnswer {
     Measures(Measures),
     Refused(u32),
 }
 
-#[derive(Drop)]
+#[derive(Clone, Copy)]
 pub enum BrierAnswer {
     Brier(UnsignedFraction),
     Refused(u32),
 }
 
-#[derive(Drop)]
+#[derive(Clone, Copy)]
 pub enum SpreadAnswer {
     Spread(Spread),
     Refused(u32),
 }
 
 // A place's answer to a comparison, which asks it for the totals of its table.
-#[derive(Drop)]
+#[derive(Clone, Copy)]
 pub enum TotalsAnswer {
     Totals(Totals),
     Refused(u32),
 }
 
 // The answer of both places to a comparison: the totals of two tables, each with a default and a survivor.
-#[derive(Drop)]
+#[derive(Clone, Copy)]
 pub enum PairAnswer {
     Totals(Totals, Totals),
     Refused(u32),

@@ -1,4 +1,6 @@
 // Cutoffs: what turning the worst grades away costs, where that is cheapest, and which of two scales is better by it.
+#![tactic(auto)]
+
 ghost use Rattle.std.specs.Prelude.{◌*◌, ◌≤◌, ◌≡◌, leb, pos, ◌+ℤ◌, ◌-ℤ◌, ◌*ℤ◌, length};
 ghost use Rattle.std.specs.Int.Signed.{lt_z};
 ghost use Rattle.table.specs.Table.{Counted, defaults_in, survivors_in};
@@ -21,7 +23,7 @@ use table::{DEFAULTS, Survivors, grades_of, obligors_at};
 pub const PRICE: u32 = 1_000_000;
 
 // A cutoff, as the number of grades that it turns away, and what it costs.
-#[derive(Drop)]
+#[derive(Clone, Copy)]
 pub struct CheapestCutoff {
     pub cutoff: u32,
     pub cost: u64,
@@ -57,7 +59,7 @@ pub fn cheapest(place: &[u32], u: u32, v: u32) -> CheapestCutoff
 }
 
 // A pair of prices: u of a missed default, v of a survivor turned away.
-#[derive(Drop)]
+#[derive(Clone, Copy)]
 pub struct Price {
     pub u: u32,
     pub v: u32,
@@ -78,7 +80,7 @@ impl Price {
 }
 
 // How often each default and each survivor of a scale counts.
-#[derive(Drop)]
+#[derive(Clone, Copy)]
 pub struct Weights {
     pub defaults: u32,
     pub survivors: Survivors,
@@ -92,7 +94,7 @@ const ONCE: Weights = Weights {
 
 // What a block counts in a scale, its defaults and its survivors each times their weight. These and their sums are no `Survivors`: they count
 // pairs with the other scale's, and need 64 bits.
-#[derive(Drop)]
+#[derive(Clone, Copy)]
 struct Counts {
     defaults: u64,
     survivors: u64,
@@ -126,7 +128,7 @@ impl Counts {
 
 // How far a cutoff of the second scale is ahead of one of the first: by so many defaults caught and survivors turned away, which are negative
 // where it is behind. The words of the second's blocks that it turns away start at `from`.
-#[derive(Drop)]
+#[derive(Clone, Copy)]
 struct Lead {
     from: usize,
     defaults: i64,
@@ -202,7 +204,7 @@ impl Lead {
 }
 
 // What a search over the blocks of a scale finds: one of them, or nothing.
-#[derive(Drop)]
+#[derive(Clone, Copy)]
 pub enum Found {
     One(Block),
     Nothing,
@@ -233,7 +235,7 @@ pub fn where_dearer(first: &[u32], weights1: Weights, second: &[u32], weights2: 
 }
 
 // Where one scale costs more than another: at these prices, or nowhere.
-#[derive(Drop)]
+#[derive(Clone, Copy)]
 pub enum Dearer {
     At(Price),
     Nowhere,
@@ -253,7 +255,7 @@ impl Found {
 }
 
 // Which of two scales is better.
-#[derive(Drop)]
+#[derive(Clone, Copy)]
 pub enum Verdict {
     Equal,
     // prices at which the second costs more

@@ -1,4 +1,6 @@
 // What is demanded of the desk, over all calls and all lists of calls. The functions do nothing: their contracts are what is claimed.
+#![tactic(auto)]
+
 ghost use Rattle.demands.specs.Demands.{Demands};
 ghost use Rattle.demands.specs.Orders.{Orders};
 ghost use Rattle.demands.specs.Worked.{Worked};

@@ -1,5 +1,7 @@
 // The desk: two places side by side, and every call on them. A method looks at the place's number, turns the place into words and back, and
 // leaves the rest to the call on words of its name in the crate `calls`.
+#![tactic(auto)]
+
 ghost use Rattle.std.specs.Prelude.{◌≡◌, eqb, length};
 ghost use Rattle.table.specs.Words.{words_of};
 ghost use Rattle.pooled_place.specs.PooledPlace.{marked_pooled_place};
@@ -30,7 +32,7 @@ pub struct Desk {
 }
 
 // The answer of a call that answers nothing further when it is accepted.
-#[derive(Drop)]
+#[derive(Clone, Copy)]
 pub enum Ack {
     Done,
     Refused(u32),

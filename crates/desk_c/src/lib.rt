@@ -1,5 +1,7 @@
 // The desk for callers in C and other languages: every entry point over the image of a desk in the caller's memory, of which a part is lent
 // to the calls on words. A function returns 0 or the refusal number; its answer goes to a lent buffer, which a refusal leaves as it was.
+#![tactic(auto)]
+
 ghost use Rattle.std.specs.Prelude.{◌≡◌};
 ghost use Rattle.cutoff.specs.Cutoff.{cheapest_of};
 ghost use Rattle.measures.specs.Measures.{measures_of};

@@ -1,4 +1,6 @@
 // Firms that come and go (document 02's R-8): the four events at a grade of the table in a place, whose pooled list is made anew.
+#![tactic(auto)]
+
 ghost use Rattle.std.specs.Prelude.{◌≤◌, ◌<◌, ◌≡◌, [], ◌∷◌, length, get_or};
 ghost use Rattle.table.specs.Table.{Counted, obligors_in};
 ghost use Rattle.table.specs.Place.{blank};
@@ -14,7 +16,7 @@ use refusals::{FULL_TABLE, NO_FIRM, NO_GRADE};
 use table::{DEFAULTS, OBLIGORS, Obligors, grades_of, obligors_at, obligors_of, wide};
 
 // What is booked at a grade.
-#[derive(Drop)]
+#[derive(Clone, Copy)]
 pub enum Event {
     SurvivorEnters,
     SurvivorLeaves,
@@ -23,7 +25,7 @@ pub enum Event {
 }
 
 // The counts of a grade.
-#[derive(Drop)]
+#[derive(Clone, Copy)]
 struct Counts {
     obligors: Obligors,
     defaults: u32,

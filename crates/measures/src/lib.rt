@@ -1,4 +1,6 @@
 // The measures of a rating scale: Gini, the curve areas, Pietra, and the Brier score of the announced rates.
+#![tactic(auto)]
+
 ghost use Rattle.std.specs.Prelude.{◌+◌, ◌-◌, ◌*◌, ◌≤◌, ◌≡◌, nat_abs};
 ghost use Rattle.std.proofs.Math.IntN.{sub_ℕ};
 ghost use Rattle.table.specs.Table.{defaults_in, survivors_in};
@@ -11,20 +13,20 @@ ghost use Rattle.measures.specs.Claims.{Claims};
 use table::{ANNOUNCED, DEFAULTS, Obligors, PPM, Survivors, grades_of, obligors_at};
 
 // A fraction as document 01 writes it, not reduced.
-#[derive(Drop)]
+#[derive(Clone, Copy)]
 pub struct UnsignedFraction {
     pub numerator: u64,
     pub denominator: u64,
 }
 
-#[derive(Drop)]
+#[derive(Clone, Copy)]
 pub struct SignedFraction {
     pub numerator: i64,
     pub denominator: u64,
 }
 
 // D, S and the four measures of a table; `cutoff` is the smallest one at Pietra's distance from the diagonal.
-#[derive(Drop)]
+#[derive(Clone, Copy)]
 pub struct Measures {
     pub defaults: u32,
     pub survivors: Survivors,
@@ -36,7 +38,7 @@ pub struct Measures {
 }
 
 // C, X, D and S of a table. T is the rest of the D S pairs.
-#[derive(Drop)]
+#[derive(Clone, Copy)]
 struct PairCounts {
     concordant: u64,
     discordant: u64,
@@ -45,7 +47,7 @@ struct PairCounts {
 }
 
 // The cutoff whose y S - x D has the largest absolute size, the smallest of equals, and that height, signed.
-#[derive(Drop)]
+#[derive(Clone, Copy)]
 struct FarthestCutoff {
     cutoff: u32,
     height: i64,

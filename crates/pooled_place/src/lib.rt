@@ -1,4 +1,6 @@
 // A place that keeps its pooled list beside its counts (document 02's R-8).
+#![tactic(auto)]
+
 ghost use Rattle.std.specs.Prelude.{◌<◌, ◌≡◌, ◌++◌, length, drop};
 ghost use Rattle.table.specs.Table.{Sound};
 ghost use Rattle.table.specs.Words.{place_in, table_in};

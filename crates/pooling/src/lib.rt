@@ -1,4 +1,6 @@
 // Pooling: the blocks of a table, and the three numbers that stand for each of its grades.
+#![tactic(auto)]
+
 ghost use Rattle.std.specs.Prelude.{◌+◌, ◌-◌, ◌*◌, ◌≤◌, ◌<◌, ◌≡◌, ◌∷◌, ◌++◌, length, take, drop};
 ghost use Rattle.table.specs.Words.{table_in, HoldsTable};
 ghost use Rattle.table.specs.Counts.{largest};
@@ -13,7 +15,7 @@ use table::{DEFAULTS, Obligors, PPM, grades_of, obligors_at};
 
 // A run of neighbouring grades: how many, their obligors and their defaults. Where `blocks_of` stores it, all grades that have its numbers are
 // counted, the empty ones too.
-#[derive(Drop)]
+#[derive(Clone, Copy)]
 pub struct Block {
     pub grades: u32,
     pub obligors: Obligors,

@@ -17,6 +17,8 @@
 //    15 defaulted_removed  place, grade
 // Pool, shortlist and write print the whole buffer after the call, write in hexadecimal, and spread the 64 bits of each float as a number.
 // An unknown operation, an operand cut short, or a length above its limit ends the script with the line `end`.
+#![tactic(auto)]
+
 ghost use Rattle.desk.specs.Desk.{SoundDesk};
 
 mod commands;

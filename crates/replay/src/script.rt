@@ -4,7 +4,7 @@ ghost use Rattle.std.specs.Prelude.{◌+◌, ◌<◌, ◌≤◌};
 use libc::STDIN_FILENO;
 
 // An operation number and its operands, 0 for those that it does not have.
-#[derive(Drop)]
+#[derive(Clone, Copy)]
 pub struct Call {
     pub operation: u32,
     pub first: u32,
@@ -43,7 +43,7 @@ pub const SURVIVOR_DEFAULTS: u32 = 14;
 
 pub const DEFAULTED_REMOVED: u32 = 15;
 
-#[derive(Drop)]
+#[derive(Clone, Copy)]
 pub enum Command {
     Call(Call),
     // The input has ended before it.

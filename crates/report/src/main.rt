@@ -1,4 +1,6 @@
 // The printing program: the pooled grades and the Gini of rater 1 of the book on standard input.
+#![tactic(auto)]
+
 ghost use Rattle.std.specs.Prelude.{◌≤◌};
 ghost use Rattle.desk.specs.Desk.{SoundDesk};
 

@@ -1,4 +1,6 @@
 // The comparison of two scales on shares, for books of different sizes: a cutoff costs u (D - y) / D + v x / S.
+#![tactic(auto)]
+
 ghost use Rattle.std.specs.Prelude.{◌≡◌};
 ghost use Rattle.table.specs.Words.{table_in};
 ghost use Rattle.table.specs.Counts.{totals_of_lem};

@@ -1,4 +1,6 @@
 // A shorter scale (document 02's R-9): neighbouring grades merged into runs, so that C - X of the coarse scale is largest.
+#![tactic(auto)]
+
 ghost use Rattle.std.specs.Prelude.{ℕ, suc, ◌+◌, ◌-◌, ◌≤◌, ◌<◌, ◌≡◌, ◌++◌, length, take, drop};
 ghost use Rattle.table.specs.Words.{table_in, HoldsTable};
 ghost use Rattle.shorter.specs.Cut.{coarse_difference, ShortenedInto};
@@ -20,14 +22,14 @@ pub const DEFAULTED: usize = POINTS;
 const CHOICES: usize = GRADES * GRADES;
 
 // Into how many runs how many grades are cut.
-#[derive(Drop)]
+#[derive(Clone, Copy)]
 struct Size {
     runs: usize,
     grades: usize,
 }
 
 // Where a run ends, and what it adds with those behind it.
-#[derive(Drop)]
+#[derive(Clone, Copy)]
 struct BestEnd {
     value: u64,
     end: usize,

@@ -8,7 +8,7 @@ use book::RATERS;
 use cutoff::never_dearer;
 
 // Which of two raters is better: at least as good, and not the reverse.
-#[derive(Drop)]
+#[derive(Clone, Copy)]
 pub enum Winner {
     First,
     Second,

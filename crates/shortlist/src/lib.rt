@@ -1,4 +1,6 @@
 // The shortlist of a book (document 02's R-7): the raters for which no other rater of the book is better.
+#![tactic(auto)]
+
 ghost use Rattle.std.specs.Prelude.{◌≡◌, length};
 ghost use Rattle.book.specs.Reading.{book_fault};
 ghost use Rattle.shortlist.specs.Checks.{shortlist_answer, buffer_after};
@@ -14,7 +16,7 @@ use book::{head_fault, raters_of, tables_fault};
 use refusals::SHORT_BUFFER;
 
 // How many raters are listed, or a refusal number.
-#[derive(Drop)]
+#[derive(Clone, Copy)]
 pub enum Shortlisted {
     Count(u32),
     Refused(u32),

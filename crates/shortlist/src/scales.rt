@@ -98,7 +98,7 @@ pub fn read_scales(book: &[u8], held: &mut [u32]) -> u32
 }
 
 // D and S of a rater.
-#[derive(Drop)]
+#[derive(Clone, Copy)]
 struct HeldTotals {
     defaults: u32,
     survivors: Survivors,

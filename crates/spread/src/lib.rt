@@ -1,4 +1,6 @@
 // The spread record: two floats, each with a proved error bound.
+#![tactic(auto)]
+
 ghost use Rattle.std.specs.Prelude.{◌-◌, ◌*◌, ◌≤◌};
 ghost use Rattle.table.specs.Words.{table_in};
 ghost use Rattle.pooling.specs.Fraction.{ratio};
@@ -13,7 +15,7 @@ use pooling::{Block, NUMBERS};
 use table::{Obligors, PLACE, obligors_at, totals_of};
 
 // The two numbers of document 01's spread record.
-#[derive(Drop)]
+#[derive(Clone, Copy)]
 pub struct Spread {
     pub total: f64,
     pub residual: f64,

@@ -1,4 +1,6 @@
 // A grade table in a place of the desk, its counts and its totals.
+#![tactic(auto)]
+
 ghost use Rattle.std.specs.Prelude.{◌+◌, ◌-◌, ◌≤◌, ◌<◌, ◌≡◌, cond, length, get_or, replicate};
 ghost use Rattle.std.proofs.Math.IntN.{sub_ℕ};
 ghost use Rattle.std.proofs.Math.Seq.{paste};
@@ -17,11 +19,11 @@ pub const OBLIGORS: u32 = 1_000_000;
 pub const PPM: u32 = 1_000_000;
 
 // A number of obligors. No sum joins it with survivors: the types differ, and `with_defaults` is the one way across.
-#[derive(Drop)]
+#[derive(Clone, Copy)]
 pub struct Obligors(pub u32);
 
 // A number of obligors that did not default.
-#[derive(Drop)]
+#[derive(Clone, Copy)]
 pub struct Survivors(pub u32);
 
 impl Obligors {
@@ -62,7 +64,7 @@ impl Survivors {
 }
 
 // D, S and N of a table.
-#[derive(Drop)]
+#[derive(Clone, Copy)]
 pub struct Totals {
     pub defaults: u32,
     pub survivors: Survivors,
