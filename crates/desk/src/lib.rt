@@ -25,7 +25,7 @@ use shortlist::Shortlisted;
 use table::{LOADED, PLACE};
 
 // The desk (document 01's term): two places, each empty or holding one table.
-#[derive(Drop)]
+#[derive(Clone, Copy)]
 pub struct Desk {
     pub first: PooledPlace,
     pub second: PooledPlace,
@@ -39,7 +39,7 @@ pub enum Ack {
 }
 
 // The desk that load, clear and the events hand back, beside their answer: an enum cannot hold the places' arrays.
-#[derive(Drop)]
+#[derive(Clone, Copy)]
 pub struct Stored {
     pub desk: Desk,
     pub ack: Ack,

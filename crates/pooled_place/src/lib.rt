@@ -19,7 +19,7 @@ pub const LIST: usize = 120;
 pub const POOLED_PLACE: usize = 242;
 
 // A place of the desk: its counts and whether it is loaded, and its pooled list.
-#[derive(Drop)]
+#[derive(Clone, Copy)]
 pub struct PooledPlace {
     pub place: Place,
     pub pooled: [u32; LIST],

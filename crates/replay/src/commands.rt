@@ -8,7 +8,7 @@ use libc::STDIN_FILENO;
 use print::text;
 
 // The desk after a command, and whether the script goes on.
-#[derive(Drop)]
+#[derive(Clone, Copy)]
 pub struct Ran {
     pub desk: Desk,
     pub goes_on: bool,

@@ -72,7 +72,7 @@ pub struct Totals {
 }
 
 // A place of the desk (document 01's term): room for one table. Grade i, the best being 0, stands at index i of each array.
-#[derive(Drop)]
+#[derive(Clone, Copy)]
 pub struct Place {
     pub obligors: [u32; GRADES],
     pub defaults: [u32; GRADES],
