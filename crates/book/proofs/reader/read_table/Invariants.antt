@@ -1,0 +1,46 @@
+-- `read_table` meets its contract. The invariant: the total is that of the first i rows, the rows from row i on, behind one that announced the
+-- rate `before`, have the fault that all have, and to store them is to store all.
+use Prim.Native.Nat.{ℕ, ◌+◌, ◌-◌, ◌*◌, ◌≤◌, ◌<◌}
+use mathlib.Core.Path.{◌≡◌, refl, sym, ap, ◌∙◌}
+use mathlib.Core.List.{List, [], ◌∷◌, ◌++◌, map}
+use native.Mathlib.Nat.{sub-zero}
+use native.Mathlib.Numerals.{add-one}
+use native.Mathlib.Omega.{arith}
+use borrow.Author.Rules.{rules}
+use lib.ListN.{length, set, length-set, length-map}
+use Rattle.table.specs.Table.{Table, Grade, obligors_in}
+use Rattle.table.specs.Place.{fresh, place_of}
+use Rattle.table.specs.Words.{words_of}
+use Rattle.table.proofs.Sums.{obligors_append}
+use Rattle.book.specs.declared.Row.{Row}
+use Rattle.book.specs.Checks.{fault}
+use Rattle.book.specs.Layout.{grades_at, kind_at}
+use Rattle.book.specs.Rows.{grade_in, grades_in, table_from, later_checks, later_fault, rows_fault, total_checks, table_fault_lem}
+use Rattle.book.specs.Private.{stored, grade_of, capped_grade, sum_checks}
+use Rattle.book.proofs.Checks.{first_none, first_some}
+use Rattle.book.proofs.Rows.{rows_end, rows_at, rows_more, length_rows, capped_table, capped_more, capped-fault, rows_later, sum-fault, faultless_exact, by_rows, by_total}
+use Rattle.book.proofs.Filled.{columns_after, row-stored, place_filled}
+use Rattle.book.proofs.reader.read_table.Given as goal
+
+-- the rows read, and the rows to come
+abbrev pub read : List ℕ → ℕ → ℕ → Table
+read b start i = capped_table (grades_in b (kind_at b start) i (start + 4))
+
+abbrev pub rest : List ℕ → ℕ → ℕ → ℕ → Table
+rest b start at i = grades_in b (kind_at b start) (grades_at b start - i) at
+
+-- w₀ are the words of the place before the first row, w those before row i.
+pub record Swept (b : List ℕ) (start : ℕ) (w₀ w : List ℕ) (total before at i : ℕ) : Type 0 where
+  pub to : i ≤ grades_at b start
+  pub here : at ≡ start + 4 + 12 * i
+  pub small : total ≤ i * 4_294_967_295
+  pub long : length w ≡ 122
+  pub faults : later_fault before (rest b start at i) ≡ rows_fault (table_from b start)
+  pub sum : total ≡ obligors_in (read b start i)
+  pub whole : columns_after w i (capped_table (rest b start at i)) ≡ columns_after w₀ 0 (capped_table (table_from b start))
+
+abbrev pub invariant-loop-i : goal.invariant-loop-i
+invariant-loop-i l = Swept l.b l.start l.initial.place l.place l.total l.before l.at l.i
+
+abbrev pub decreases-loop-i : goal.decreases-loop-i
+decreases-loop-i l = l.grades - l.i

@@ -1,0 +1,30 @@
+-- `put_rows` meets its contract. The invariant: to store the grades from grade i on is to store all.
+use Prim.Native.Nat.{ℕ, ◌+◌, ◌-◌, ◌*◌, ◌≤◌, ◌<◌}
+use mathlib.Core.Path.{◌≡◌, refl, sym, ◌∙◌}
+use mathlib.Core.List.{List}
+use native.Mathlib.Nat.{zero-add}
+use native.Mathlib.Omega.{arith}
+use lib.ListN.{length, get_or}
+use Rattle.table.specs.declared.Place.{Place}
+use Rattle.table.specs.Place.{grade_at, table_of}
+use Rattle.table.specs.Words.{place_in}
+use Rattle.table.proofs.Words.{column-at}
+use Rattle.table.proofs.Suffix.{suffix, suffix_all, suffix_end, suffix_at}
+use Rattle.book.specs.Private.{stored}
+use Rattle.book.specs.Encode.{encode_grade, encode_grades}
+use Rattle.book.proofs.Stored.{stored_two, stored-length, stored_none}
+use Rattle.book.proofs.Books.{length_grade}
+use Rattle.book.proofs.writer.put_rows.Given as goal
+
+pub record Put (p : Place) (whole : List ℕ) (size start : ℕ) (out : List ℕ) (at i : ℕ) : Type 0 where
+  pub to : i ≤ p.grades
+  pub here : at ≡ start + 12 * i
+  pub long : length out ≡ size
+  pub rest : stored out at (encode_grades (suffix p i)) ≡ whole
+
+abbrev pub invariant-loop-i : goal.invariant-loop-i
+invariant-loop-i l = let p = place_in l.place in
+    Put p (stored l.initial.out l.start (encode_grades (table_of p))) (length l.initial.out) l.start l.out l.at l.i
+
+abbrev pub decreases-loop-i : goal.decreases-loop-i
+decreases-loop-i l = l.grades - l.i

@@ -1,0 +1,16 @@
+-- `counts` meets its contract.
+use native.Mathlib.Omega.{arith}
+use borrow.Author.Rules.{rules}
+use Rattle.table.proofs.Arithmetic.{counts_fit}
+use Rattle.cutoff.proofs.Weights.counts.Goals as goal
+
+pub overflow_mul-result : goal.overflow_mul-result
+overflow_mul-result c = let p = c.requires in counts_fit (omega (arith, p.0)) (omega (arith, p.1))
+
+pub overflow_mul-result-2 : goal.overflow_mul-result-2
+overflow_mul-result-2 c =
+    let p = c.requires in
+    counts_fit (omega (arith, p.0)) (omega (arith, c.survivors-lost.ensures, p.1))
+
+pub returns : goal.returns
+returns c = rw c.survivors-lost.ensures

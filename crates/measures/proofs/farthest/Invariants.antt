@@ -1,0 +1,87 @@
+-- `farthest` meets its contract. The invariant: at grade i the cutoffs that turn away no better grade have been tried.
+use Prim.Native.Nat.{ℕ, suc, ◌+◌, ◌-◌, ◌*◌, ◌≤◌, ◌<◌}
+use mathlib.Core.Path.{◌≡◌, sym, ap, ◌∙◌}
+use mathlib.Core.List.{List}
+use native.Mathlib.Nat.{sub_self, zero-mul}
+use native.Mathlib.Omega.{arith}
+use borrow.Author.Rules.{rules}
+use borrow.Author.Tests.{lt-ltb, le-ltb}
+use lib.ListN.{length, get_or}
+use lib.IntN.{ℤ, pos, sub_ℕ, nat_abs}
+use mir.Syntax.{w64}
+use mir.Val.{to_z, of_z}
+use mir.ValLaws.{to_z-of_z}
+use Rattle.table.specs.declared.Place.{Place}
+use Rattle.table.specs.declared.Survivors.{Survivors}
+use Rattle.table.specs.Table.{Table, Sound, survivors, defaults_in, survivors_in}
+use Rattle.table.specs.Place.{grade_at, table_of}
+use Rattle.table.specs.Words.{place_in}
+use Rattle.table.proofs.Arithmetic.{counts_le}
+use Rattle.table.proofs.Suffix.{suffix, suffix_end, length_grades, small, sound_small, few_counts}
+use Rattle.table.proofs.Words.{Turn, turn}
+use Rattle.cutoff.specs.Best.{best}
+use Rattle.measures.specs.Measures.{height, farther}
+use Rattle.measures.specs.Private.{farthest_of}
+use Rattle.measures.proofs.Cutoffs.{turned_none, turned_suffix}
+use Rattle.measures.proofs.Signed.{difference_fits}
+use Rattle.measures.proofs.farthest.Given as goal
+
+-- the best of the cutoffs that turn away no better grade than i
+abbrev pub best_from : Place → ℕ → ℕ
+best_from p i = best farther (height (table_of p)) (p.grades - i)
+
+-- a and b are the curve and the diagonal times D S, h is a height in 64 bits, which `to_z` reads, and far its absolute size.
+pub record Tried (p : Place) (i a b g h far : ℕ) : Type 0 where
+  pub inside : i ≤ p.grades
+  pub curve : a ≡ defaults_in (suffix p i) * survivors_in (table_of p)
+  pub diagonal : b ≡ survivors_in (suffix p i) * defaults_in (table_of p)
+  pub cutoff : g ≡ best_from p i
+  pub high : to_z w64 h ≡ height (table_of p) (best_from p i)
+  pub distance : far ≡ nat_abs (height (table_of p) (best_from p i))
+
+-- The next cutoff turns grade i - 1 away too.
+abbrev pub p : Place
+p = place_in w
+
+pub inside : i - 1 ≤ p.grades
+inside = omega (arith, t.inside)
+
+pub few_curve : {a' : ℕ} → a' ≡ defaults_in (suffix p (i - 1)) * survivors_in (table_of p) → a' ≤ 1_000_000_000_000
+few_curve e = rw e (counts_le (few_counts (small p (i - 1) sound inside)).0 (few_counts (sound_small sound)).1)
+
+pub few_diagonal : {b' : ℕ} → b' ≡ survivors_in (suffix p (i - 1)) * defaults_in (table_of p) → b' ≤ 1_000_000_000_000
+few_diagonal e = rw e (counts_le (few_counts (small p (i - 1) sound inside)).1 (few_counts (sound_small sound)).0)
+
+-- What a turn knows of the cutoff that it tries.
+pub record Next (p : Place) (i a b : ℕ) : Type 0 where
+  pub inside : i - 1 ≤ p.grades
+  pub number : p.grades - (i - 1) ≡ suc (p.grades - i)
+  pub curve : a ≡ defaults_in (suffix p (i - 1)) * survivors_in (table_of p)
+  pub diagonal : b ≡ survivors_in (suffix p (i - 1)) * defaults_in (table_of p)
+  pub small_a : a ≤ 1_000_000_000_000
+  pub small_b : b ≤ 1_000_000_000_000
+  pub here : sub_ℕ a b ≡ height (table_of p) (p.grades - (i - 1))
+
+pub next : {w : List ℕ} {i a b a' b' g h far : ℕ} → Sound (table_of (place_in w)) → 0 < i → (f : Turn w i) (t : Tried (place_in w) i a b g h far)
+    → a' ≡ defaults_in (suffix (place_in w) (i - 1)) * survivors_in (table_of (place_in w))
+    → b' ≡ survivors_in (suffix (place_in w) (i - 1)) * defaults_in (table_of (place_in w)) → Next (place_in w) i a' b'
+next {w} {i} sound up f t ofA ofB =    let p = place_in w in
+    let near : i - 1 ≤ p.grades = omega (arith, t.inside) in
+    record {
+      inside = near;
+      number = omega (arith, t.inside);
+      curve = ofA;
+      diagonal = ofB;
+      small_a = few_curve sound f t ofA;
+      small_b = few_diagonal sound f t ofB;
+      here = rw (turned_suffix p (i - 1) near, ofA, ofB);
+    }
+
+pub size : here ≡ nat_abs (height (table_of p) (p.grades - (i - 1)))
+size = rw (← n.here) e
+
+abbrev pub invariant-loop-i : goal.invariant-loop-i
+invariant-loop-i l = Tried (place_in l.place) l.i l.curve l.diagonal l.cutoff l.height l.distance
+
+abbrev pub decreases-loop-i : goal.decreases-loop-i
+decreases-loop-i l = l.i

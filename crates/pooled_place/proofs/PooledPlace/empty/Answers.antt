@@ -1,0 +1,6 @@
+-- `PooledPlace::empty` meets its contract.
+use borrow.Author.Rules.{rules}
+use Rattle.pooled_place.proofs.PooledPlace.empty.Goals as goal
+
+pub returns : goal.returns
+returns c = rw c.empty.ensures

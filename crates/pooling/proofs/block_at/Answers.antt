@@ -1,0 +1,6 @@
+-- `block_at` meets its contract.
+use borrow.Author.Rules.{rules}
+use Rattle.pooling.proofs.block_at.Goals as goal
+
+pub returns : goal.returns
+returns c = rw (← c.obligors_at.ensures)

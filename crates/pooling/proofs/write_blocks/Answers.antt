@@ -1,0 +1,230 @@
+-- `write_blocks` meets its contract. The invariant: from `end` on stand the numbers of the blocks from index `at` on, and then the further ones;
+-- there is a block before them, and its band is at most the one in hand.
+use Prim.Native.Nat.{ℕ, ◌+◌, ◌-◌, ◌*◌, ◌≤◌, ◌<◌}
+use mathlib.Core.Path.{◌≡◌, refl, ap, sym, ◌∙◌}
+use mathlib.Core.List.{List, ◌∷◌, ◌++◌}
+use native.Mathlib.Omega.{arith}
+use borrow.Author.Rules.{rules}
+use mir.Syntax.{w64}
+use mir.Val.{Fits}
+use lib.ListN.{length, take, drop, take-append-drop, drop_of_length-le}
+use Rattle.pooling.specs.Pool.{Block, Rising}
+use Rattle.pooling.specs.Private.{sum_of, block_words, blocks_in_lem}
+use Rattle.pooling.specs.Band.{band_of}
+use Rattle.pooling.specs.Limits.{listed_limits}
+use Rattle.pooling.specs.Numbers.{grades_of_lem, numbers_of_lem}
+use Rattle.pooling.proofs.Front.{rising_drop}
+use Rattle.pooling.proofs.Bands.{band_right, bands_rise}
+use Rattle.pooling.proofs.Words.{nth, nth_from, Between, Last, last, at_end}
+use Rattle.pooling.proofs.Joined.{grades_drop}
+use Rattle.pooling.proofs.Backwards.{put_more}
+use Rattle.pooling.proofs.write_blocks.Invariants.{Written}
+use Rattle.pooling.proofs.write_blocks.Goals as goal
+
+-- What a turn knows of the block before index `at`, the last of k.
+record Turn (bs : List Block) (items : List ℕ) (start at k : ℕ) : Type 0 where
+  pub block : Last items bs start at k
+  pub fewer : (nth bs (k - 1)).grades + (sum_of (drop k bs)).grades ≤ (sum_of bs).grades
+  pub lower : start < at - 3 → band_of (nth bs (k - 1 - 1)) ≤ band_of (nth bs (k - 1))
+
+turn : (bs : List Block) (items : List ℕ) (start at : ℕ) → drop start items ≡ block_words bs → Rising bs → (b : Between bs start at) → start < at
+    → Turn bs items start at b.count
+unfolding sum_of Rising
+turn bs items start at held rising b h =    let k = b.count in
+    let l = last items bs start at held b h in
+    record {
+      block = l;
+      fewer = omega (arith, rw l.from at (grades_drop bs (k - 1)));
+      lower = λ m.
+          let e : k - 1 - 1 + 1 ≡ k - 1 = omega (arith, l.same) in
+          let before = rw (e, l.from) at (nth_from bs (k - 1 - 1) (omega (arith, l.few))) in
+          bands_rise _ _ (rw before at (rising_drop bs (k - 1 - 1) rising)).0;
+    }
+
+pub overflow_mul-end : goal.overflow_mul-end
+overflow_mul-end c = let count = c.requires.room in omega arith
+
+pub loop-at-init : goal.loop-at-init
+unfolding numbers_of_lem sum_of
+loop-at-init c =
+    let (held, (rising, count)) = c.requires in
+    let bs = blocks_in_lem (drop c.args.start c.args.items.now) in
+    let between = at_end c.args.items.now bs c.args.start 120 held.0 (omega (arith, held.2)) held.1 in
+    let none = drop_of_length-le bs {i = length bs} (omega arith) in (
+      held.2,
+      record {
+        held = held.0;
+        full = held.1;
+        between = between;
+        rising = rising;
+        all = omega (arith, count.0);
+        small = omega (arith, count.1);
+        room = count.2;
+        long = refl;
+        few = omega arith;
+        most = λ _. omega (arith, (band_right (nth bs (length bs - 1))).within);
+        count = rw none (omega arith);
+        same = rw (none, take-append-drop);
+      },
+    )
+
+pub overflow_sub-at : goal.overflow_sub-at
+overflow_sub-at c =
+    let begun : tie.Start invariant-loop decreases-loop = c in
+    let items : List ℕ = begun.args.items.now in
+    let blocks : List Block = blocks_in_lem (drop begun.args.start items) in
+    let at : Turn blocks items begun.args.start c.loop-at.at c.loop-at.invariant.1.between.count = let inv = c.loop-at.invariant.1 in turn _ _ _ _ inv.held inv.rising inv.between c.loop-at.invariant.0 in
+    at.block.high
+
+pub block_at-x-requires : goal.block_at-x-requires
+block_at-x-requires c =
+    let begun : tie.Start invariant-loop decreases-loop = c in
+    let items : List ℕ = begun.args.items.now in
+    let blocks : List Block = blocks_in_lem (drop begun.args.start items) in
+    let at : Turn blocks items begun.args.start c.loop-at.at c.loop-at.invariant.1.between.count = let inv = c.loop-at.invariant.1 in turn _ _ _ _ inv.held inv.rising inv.between c.loop-at.invariant.0 in
+    at.block.room
+
+-- The constant has the listed limits.
+pub band-band-requires : goal.band-band-requires
+unfolding listed_limits
+band-band-requires c =
+    let begun : tie.Start invariant-loop decreases-loop = c in
+    let items : List ℕ = begun.args.items.now in
+    let blocks : List Block = blocks_in_lem (drop begun.args.start items) in
+    let at : Turn blocks items begun.args.start c.loop-at.at c.loop-at.invariant.1.between.count = let inv = c.loop-at.invariant.1 in turn _ _ _ _ inv.held inv.rising inv.between c.loop-at.invariant.0 in
+    let is : c.block_at-x.result ≡ nth blocks (c.loop-at.invariant.1.between.count - 1) = c.block_at-x.ensures ∙ at.block.here in
+    let turned : tie.At-loop invariant-loop decreases-loop = c in
+    let inv = turned.loop.inv in
+    (refl, (rw is (inv.1.most inv.0), inv.1.few))
+
+pub overflow_cast-band : goal.overflow_cast-band
+overflow_cast-band c = omega (arith, c.band-band.ensures, (band_right c.block_at-x.result).within)
+
+pub write_block-requires : goal.write_block-requires
+write_block-requires c =
+    let begun : tie.Start invariant-loop decreases-loop = c in
+    let items : List ℕ = begun.args.items.now in
+    let blocks : List Block = blocks_in_lem (drop begun.args.start items) in
+    let at : Turn blocks items begun.args.start c.loop-at.at c.loop-at.invariant.1.between.count = let inv = c.loop-at.invariant.1 in turn _ _ _ _ inv.held inv.rising inv.between c.loop-at.invariant.0 in
+    let is : c.block_at-x.result ≡ nth blocks (c.loop-at.invariant.1.between.count - 1) = c.block_at-x.ensures ∙ at.block.here in
+    let turned : tie.At-loop invariant-loop decreases-loop = c in
+    let fewer : 3 * c.block_at-x.result.grades ≤ turned.loop.end = let inv = turned.loop.inv.1 in
+    omega (arith, inv.all, inv.count, (at turned).fewer, ap (λ x. x.grades) is) in
+    let within : turned.loop.end ≤ length turned.loop.out = let inv = turned.loop.inv.1 in omega (arith, inv.count, inv.room, inv.long) in
+    (c.band-band.ensures, (fewer, within))
+
+pub returns-then-at-start : goal.returns-then-at-start
+unfolding numbers_of_lem sum_of
+returns-then-at-start c =
+    let begun : tie.Start invariant-loop decreases-loop = c in
+    let items : List ℕ = begun.args.items.now in
+    let blocks : List Block = blocks_in_lem (drop begun.args.start items) in
+    let at : Turn blocks items begun.args.start c.loop-at.at c.loop-at.invariant.1.between.count = let inv = c.loop-at.invariant.1 in turn _ _ _ _ inv.held inv.rising inv.between c.loop-at.invariant.0 in
+    let read : tie.After-block-at invariant-loop decreases-loop = c in
+    let turned : tie.At-loop invariant-loop decreases-loop = c in
+    let top : tie.At-loop invariant-loop decreases-loop = turned read in
+    let ends : ℕ = top.loop.end - 3 * read.block_at.result.grades in
+    let is : c.block_at-x.result ≡ nth blocks (c.loop-at.invariant.1.between.count - 1) = c.block_at-x.ensures ∙ at.block.here in
+    let fewer : 3 * c.block_at-x.result.grades ≤ turned.loop.end = let inv = turned.loop.inv.1 in
+    omega (arith, inv.all, inv.count, (at turned).fewer, ap (λ x. x.grades) is) in
+    let written : Written (blocks top) (items top) (begun top).args.start (3 * (begun top).args.grades)
+    (begun top).args.out.now c.write_block.new.band.1.1.0 ends (top.loop.at - 3) c.band-band.result = let f = at top in
+    let inv = top.loop.inv.1 in
+    let k = inv.between.count in
+    let b = c.band-band.ensures in
+    let o = (begun top).args.out.now in
+    let x = read.block_at.result in
+    let split = f.block.from ∙ ap (λ y. y ∷ drop k (blocks top)) (sym (is read)) in
+    let end = top.loop.end in
+    let short : end ≤ length o = omega (arith, inv.count, inv.room) in
+    let more = put_more o _ top.loop.out end ends (grades_of_lem x x.grades) inv.same (omega arith) short in
+    record {
+      held = inv.held;
+      full = inv.full;
+      between = record { count = k - 1; few = omega (arith, f.block.few); same = f.block.same };
+      rising = inv.rising;
+      all = inv.all;
+      small = inv.small;
+      room = inv.room;
+      long = c.write_block.auto.1.1.1.0 ∙ inv.long;
+      few = omega (arith, b, (band_right x).within);
+      most = λ h. omega (arith, b, ap band_of (is read), f.lower h);
+      count = rw split (omega (arith, inv.count, fewer read));
+      same = rw split (rw more at c.write_block.ensures);
+    } in
+    let w = written in
+    let none : w.between.count ≡ 0 = omega (arith, c.if-at-start.true, w.between.same) in
+    let whole : ends ≡ 0 = omega (arith, w.all, rw none at w.count) in
+    rw (none, whole) at w.same
+
+pub overflow_mul-end-in-loop-at : goal.overflow_mul-end-in-loop-at
+overflow_mul-end-in-loop-at c =
+    let turned : tie.At-loop invariant-loop decreases-loop = c in
+    let begun : tie.Start invariant-loop decreases-loop = c in
+    let items : List ℕ = begun.args.items.now in
+    let blocks : List Block = blocks_in_lem (drop begun.args.start items) in
+    let at : Turn blocks items begun.args.start c.loop-at.at c.loop-at.invariant.1.between.count = let inv = c.loop-at.invariant.1 in turn _ _ _ _ inv.held inv.rising inv.between c.loop-at.invariant.0 in
+    let is : c.block_at-x.result ≡ nth blocks (c.loop-at.invariant.1.between.count - 1) = c.block_at-x.ensures ∙ at.block.here in
+    let fewer : 3 * c.block_at-x.result.grades ≤ turned.loop.end = let inv = turned.loop.inv.1 in
+    omega (arith, inv.all, inv.count, (at turned).fewer, ap (λ x. x.grades) is) in
+    let fits : Fits w64 (3 * c.block_at-x.result.grades) = let inv = turned.loop.inv.1 in omega (arith, fewer, inv.count, inv.small) in
+    let read : tie.After-block-at invariant-loop decreases-loop = c in
+    fits read
+
+pub overflow_sub-end : goal.overflow_sub-end
+overflow_sub-end c =
+    let begun : tie.Start invariant-loop decreases-loop = c in
+    let items : List ℕ = begun.args.items.now in
+    let blocks : List Block = blocks_in_lem (drop begun.args.start items) in
+    let at : Turn blocks items begun.args.start c.loop-at.at c.loop-at.invariant.1.between.count = let inv = c.loop-at.invariant.1 in turn _ _ _ _ inv.held inv.rising inv.between c.loop-at.invariant.0 in
+    let is : c.block_at-x.result ≡ nth blocks (c.loop-at.invariant.1.between.count - 1) = c.block_at-x.ensures ∙ at.block.here in
+    let turned : tie.At-loop invariant-loop decreases-loop = c in
+    let fewer : 3 * c.block_at-x.result.grades ≤ turned.loop.end = let inv = turned.loop.inv.1 in
+    omega (arith, inv.all, inv.count, (at turned).fewer, ap (λ x. x.grades) is) in
+    let read : tie.After-block-at invariant-loop decreases-loop = c in
+    fewer read
+
+pub loop-at-smaller : goal.loop-at-smaller
+loop-at-smaller c = omega arith
+
+pub loop-at-preserved : goal.loop-at-preserved
+unfolding numbers_of_lem sum_of
+loop-at-preserved c =
+    let begun : tie.Start invariant-loop decreases-loop = c in
+    let items : List ℕ = begun.args.items.now in
+    let blocks : List Block = blocks_in_lem (drop begun.args.start items) in
+    let at : Turn blocks items begun.args.start c.loop-at.at c.loop-at.invariant.1.between.count = let inv = c.loop-at.invariant.1 in turn _ _ _ _ inv.held inv.rising inv.between c.loop-at.invariant.0 in
+    let is : c.block_at-x.result ≡ nth blocks (c.loop-at.invariant.1.between.count - 1) = c.block_at-x.ensures ∙ at.block.here in
+    let turned : tie.At-loop invariant-loop decreases-loop = c in
+    let fewer : 3 * c.block_at-x.result.grades ≤ turned.loop.end = let inv = turned.loop.inv.1 in
+    omega (arith, inv.all, inv.count, (at turned).fewer, ap (λ x. x.grades) is) in
+    let read : tie.After-block-at invariant-loop decreases-loop = c in
+    let top : tie.At-loop invariant-loop decreases-loop = turned read in
+    let ends : ℕ = top.loop.end - 3 * read.block_at.result.grades in
+    let written : Written (blocks top) (items top) (begun top).args.start (3 * (begun top).args.grades)
+    (begun top).args.out.now c.write_block.new.band.1.1.0 ends (top.loop.at - 3) c.band-band.result = let f = at top in
+    let inv = top.loop.inv.1 in
+    let k = inv.between.count in
+    let b = c.band-band.ensures in
+    let o = (begun top).args.out.now in
+    let x = read.block_at.result in
+    let split = f.block.from ∙ ap (λ y. y ∷ drop k (blocks top)) (sym (is read)) in
+    let end = top.loop.end in
+    let short : end ≤ length o = omega (arith, inv.count, inv.room) in
+    let more = put_more o _ top.loop.out end ends (grades_of_lem x x.grades) inv.same (omega arith) short in
+    record {
+      held = inv.held;
+      full = inv.full;
+      between = record { count = k - 1; few = omega (arith, f.block.few); same = f.block.same };
+      rising = inv.rising;
+      all = inv.all;
+      small = inv.small;
+      room = inv.room;
+      long = c.write_block.auto.1.1.1.0 ∙ inv.long;
+      few = omega (arith, b, (band_right x).within);
+      most = λ h. omega (arith, b, ap band_of (is read), f.lower h);
+      count = rw split (omega (arith, inv.count, fewer read));
+      same = rw split (rw more at c.write_block.ensures);
+    } in
+    let w = written in
+    (omega (arith, c.if-at-start.false, w.between.same), w)

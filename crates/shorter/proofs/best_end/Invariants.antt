@@ -1,0 +1,20 @@
+-- `best_end` meets its contract. The invariant: the ends up to e have been tried.
+use Prim.Native.Nat.{ℕ, suc, ◌+◌, ◌-◌, ◌≤◌, ◌<◌}
+use mathlib.Core.Path.{◌≡◌}
+use native.Mathlib.Omega.{arith}
+use Rattle.shorter.specs.Private.{top_from, by, best_end_lem}
+use Rattle.shorter.proofs.Search.{top_one, top_taken, top_left}
+use Rattle.shorter.proofs.best_end.Given as goal
+
+-- Up to e, the best end is `end`.
+pub record Tried (f : ℕ → ℕ) (i last e end value : ℕ) : Type 0 where
+  pub after : i < e
+  pub inside : e ≤ last
+  pub found : end ≡ top_from f (suc i) e
+  pub worth : value ≡ f end
+
+abbrev pub invariant-loop-e : goal.invariant-loop-e
+invariant-loop-e l = Tried (by l.sums l.values l.i) l.i l.last l.e l.end l.value
+
+abbrev pub decreases-loop-e : goal.decreases-loop-e
+decreases-loop-e l = l.last - l.e

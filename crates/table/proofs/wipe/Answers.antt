@@ -1,0 +1,9 @@
+-- `wipe` meets its contract.
+use Prim.Native.Nat.{ℕ}
+use mathlib.Core.Path.{ap, ◌∙◌}
+use borrow.Author.Rules.{rules}
+use lib.ListN.{replicate}
+use Rattle.table.proofs.wipe.Goals as goal
+
+pub returns : goal.returns
+returns c = c.wipe_words.ensures ∙ ap (λ (n : ℕ). replicate {A = ℕ} n 0) c.requires
