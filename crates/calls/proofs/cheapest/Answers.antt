@@ -24,7 +24,11 @@ returns-then-v-gt-PRICE c =
     refuses 12 _ (asked (cheapest _ _) r (pass (omega arith) (over (omega arith)))) (λ z. omega arith)
 
 pub cheapest-requires : goal.cheapest-requires
-cheapest-requires c = ((ready _ c.requires c.is_loaded.ensures c.if-not-is_loaded.false).holds, (omega arith, omega arith))
+cheapest-requires c =
+    record {
+      holds_table = (ready _ c.requires c.is_loaded.ensures c.if-not-is_loaded.false).holds;
+      prices = (omega arith, omega arith);
+    }
 
 pub returns : goal.returns
 returns c =

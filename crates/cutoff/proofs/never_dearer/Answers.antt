@@ -15,8 +15,11 @@ says a = calls (dearer_at once a)
 
 pub where_dearer-found-requires : goal.where_dearer-found-requires
 where_dearer-found-requires c =
-    let (scales, (defaults, survivors)) = c.requires in
-    (scales, (((omega arith, omega arith), (omega arith, omega arith)), scales_matched _ _ scales.0 scales.1 defaults survivors))
+    let (scales, (defaults, survivors)) = c.requires in record {
+      scales = scales;
+      light = ((omega arith, omega arith), (omega arith, omega arith));
+      matched = scales_matched _ _ scales.0 scales.1 defaults survivors;
+    }
 
 pub returns-in-One : goal.returns-in-One
 returns-in-One c =

@@ -16,99 +16,89 @@ loop-i-init c = let pre = c.requires in none_swept pre.0.0 pre.0.1 c.none-lead.e
 
 pub overflow_sub-i : goal.overflow_sub-i
 overflow_sub-i c =
-    let start : tie.Start invariant-loop decreases-loop = c in
-    let at : Turn start.args.first.now c.loop-i.i c.loop-i.invariant.left = turn start.requires.0.0 c.loop-i.invariant.few_left c.loop-i.invariant.from c.loop-i-test.true in
+    let at : Turn c.args.first.now c.loop-i.i c.loop-i.invariant.left = turn c.requires.scales.0 c.loop-i.invariant.few_left c.loop-i.invariant.from c.loop-i-test.true in
     at.words.high
 
 pub block_at-block-requires : goal.block_at-block-requires
 block_at-block-requires c =
-    let start : tie.Start invariant-loop decreases-loop = c in
-    let at : Turn start.args.first.now c.loop-i.i c.loop-i.invariant.left = turn start.requires.0.0 c.loop-i.invariant.few_left c.loop-i.invariant.from c.loop-i-test.true in
+    let at : Turn c.args.first.now c.loop-i.i c.loop-i.invariant.left = turn c.requires.scales.0 c.loop-i.invariant.few_left c.loop-i.invariant.from c.loop-i-test.true in
     at.words.room
 
 pub counts-at-requires : goal.counts-at-requires
 counts-at-requires c =
-    let start : tie.Start invariant-loop decreases-loop = c in
-    let at : Turn start.args.first.now c.loop-i.i c.loop-i.invariant.left = turn start.requires.0.0 c.loop-i.invariant.few_left c.loop-i.invariant.from c.loop-i-test.true in
-    (start.pre.1.0.0, turn_counted at c.block_at-block.ensures)
+    let at : Turn c.args.first.now c.loop-i.i c.loop-i.invariant.left = turn c.requires.scales.0 c.loop-i.invariant.few_left c.loop-i.invariant.from c.loop-i-test.true in
+    record {
+      light = c.requires.light.0;
+      counted = turn_counted at c.block_at-block.ensures;
+    }
 
 pub turning_away-lead-requires : goal.turning_away-lead-requires
 turning_away-lead-requires c =
-    let start : tie.Start invariant-loop decreases-loop = c in
-    let known : let a = start.args in Scales a.weights1 a.weights2 (scale_in a.first.now) (scale_in a.second.now) = let (both, more) = start.requires in
+    let known : let a = c.args in Scales a.weights1 a.weights2 (scale_in a.first.now) (scale_in a.second.now) = let (both, more) = c.requires in
     scales _ _ both.0 both.1 more.0.0 more.0.1 more.1 in
-    let top : tie.At-loop invariant-loop decreases-loop = c in
-    let at : Turn start.args.first.now c.loop-i.i c.loop-i.invariant.left = turn start.requires.0.0 c.loop-i.invariant.few_left c.loop-i.invariant.from c.loop-i-test.true in
-    let some : 0 < top.loop.inv.left = at.words.some in
-    let here : c.counts-at.result ≡ counts_in (start top).args.weights1 (grade_before (scale_in (start top).args.first.now) top.loop.inv.left) = turn_counts at c.block_at-block.ensures (start top).args.weights1 c.counts-at.ensures in
-    let l = top in
-    let pre = (start l).pre in
-    let lead = is_lead (known l) l.loop.invariant some here in
-    let fewer = fewer_at (known l) l.loop.invariant some here in
-    ((pre.0.1, (pre.1.0.1, lead)), (fewer, small₂ (known l) l.loop.invariant some here))
+    let at : Turn c.args.first.now c.loop-i.i c.loop-i.invariant.left = turn c.requires.scales.0 c.loop-i.invariant.few_left c.loop-i.invariant.from c.loop-i-test.true in
+    let some : 0 < c.loop-i.invariant.left = at.words.some in
+    let here : c.counts-at.result ≡ counts_in c.args.weights1 (grade_before (scale_in c.args.first.now) c.loop-i.invariant.left) = turn_counts at c.block_at-block.ensures c.args.weights1 c.counts-at.ensures in
+    let pre = c.requires in
+    let lead = is_lead known c.loop-i.invariant some here in
+    let fewer = fewer_at known c.loop-i.invariant some here in record {
+      scale = (pre.0.1, (pre.1.0.1, lead));
+      fewer = fewer;
+      small = small₂ known c.loop-i.invariant some here;
+    }
 
 pub shows_dearer-requires : goal.shows_dearer-requires
 shows_dearer-requires c =
-    let start : tie.Start invariant-loop decreases-loop = c in
-    let known : let a = start.args in Scales a.weights1 a.weights2 (scale_in a.first.now) (scale_in a.second.now) = let (both, more) = start.requires in
+    let known : let a = c.args in Scales a.weights1 a.weights2 (scale_in a.first.now) (scale_in a.second.now) = let (both, more) = c.requires in
     scales _ _ both.0 both.1 more.0.0 more.0.1 more.1 in
-    let top : tie.At-loop invariant-loop decreases-loop = c in
-    let at : Turn start.args.first.now c.loop-i.i c.loop-i.invariant.left = turn start.requires.0.0 c.loop-i.invariant.few_left c.loop-i.invariant.from c.loop-i-test.true in
-    let some : 0 < top.loop.inv.left = at.words.some in
-    let here : c.counts-at.result ≡ counts_in (start top).args.weights1 (grade_before (scale_in (start top).args.first.now) top.loop.inv.left) = turn_counts at c.block_at-block.ensures (start top).args.weights1 c.counts-at.ensures in
-    let l = top in
-    let small = costs_fitting (known l) l.loop.invariant some here c.turning_away-lead.ensures in
-    (few_at (known l) l.loop.invariant some here, small)
+    let at : Turn c.args.first.now c.loop-i.i c.loop-i.invariant.left = turn c.requires.scales.0 c.loop-i.invariant.few_left c.loop-i.invariant.from c.loop-i-test.true in
+    let some : 0 < c.loop-i.invariant.left = at.words.some in
+    let here : c.counts-at.result ≡ counts_in c.args.weights1 (grade_before (scale_in c.args.first.now) c.loop-i.invariant.left) = turn_counts at c.block_at-block.ensures c.args.weights1 c.counts-at.ensures in
+    let small = costs_fitting known c.loop-i.invariant some here c.turning_away-lead.ensures in record {
+      few = few_at known c.loop-i.invariant some here;
+      small = small;
+    }
 
 pub returns-then-shows_dearer : goal.returns-then-shows_dearer
 returns-then-shows_dearer c =
-    let start : tie.Start invariant-loop decreases-loop = c in
-    let known : let a = start.args in Scales a.weights1 a.weights2 (scale_in a.first.now) (scale_in a.second.now) = let (both, more) = start.requires in
+    let known : let a = c.args in Scales a.weights1 a.weights2 (scale_in a.first.now) (scale_in a.second.now) = let (both, more) = c.requires in
     scales _ _ both.0 both.1 more.0.0 more.0.1 more.1 in
-    let at : Turn start.args.first.now c.loop-i.i c.loop-i.invariant.left = turn start.requires.0.0 c.loop-i.invariant.few_left c.loop-i.invariant.from c.loop-i-test.true in
-    let top : tie.At-loop invariant-loop decreases-loop = c in
-    let some : 0 < top.loop.inv.left = at.words.some in
-    let here : c.counts-at.result ≡ counts_in (start top).args.weights1 (grade_before (scale_in (start top).args.first.now) top.loop.inv.left) = turn_counts at c.block_at-block.ensures (start top).args.weights1 c.counts-at.ensures in
-    let l = top in
-    found (known l) l.loop.invariant some here c.turning_away-lead.ensures
+    let at : Turn c.args.first.now c.loop-i.i c.loop-i.invariant.left = turn c.requires.scales.0 c.loop-i.invariant.few_left c.loop-i.invariant.from c.loop-i-test.true in
+    let some : 0 < c.loop-i.invariant.left = at.words.some in
+    let here : c.counts-at.result ≡ counts_in c.args.weights1 (grade_before (scale_in c.args.first.now) c.loop-i.invariant.left) = turn_counts at c.block_at-block.ensures c.args.weights1 c.counts-at.ensures in
+    found known c.loop-i.invariant some here c.turning_away-lead.ensures
     (turn_block at c.block_at-block.ensures) c.shows_dearer.ensures c.if-shows_dearer.true
 
 pub passed-lead-requires : goal.passed-lead-requires
 passed-lead-requires c =
-    let start : tie.Start invariant-loop decreases-loop = c in
-    let known : let a = start.args in Scales a.weights1 a.weights2 (scale_in a.first.now) (scale_in a.second.now) = let (both, more) = start.requires in
+    let known : let a = c.args in Scales a.weights1 a.weights2 (scale_in a.first.now) (scale_in a.second.now) = let (both, more) = c.requires in
     scales _ _ both.0 both.1 more.0.0 more.0.1 more.1 in
-    let top : tie.At-loop invariant-loop decreases-loop = c in
-    let at : Turn start.args.first.now c.loop-i.i c.loop-i.invariant.left = turn start.requires.0.0 c.loop-i.invariant.few_left c.loop-i.invariant.from c.loop-i-test.true in
-    let some : 0 < top.loop.inv.left = at.words.some in
-    let here : c.counts-at.result ≡ counts_in (start top).args.weights1 (grade_before (scale_in (start top).args.first.now) top.loop.inv.left) = turn_counts at c.block_at-block.ensures (start top).args.weights1 c.counts-at.ensures in
-    let l = top in
-    let small = passed_fitting (known l) l.loop.invariant some here c.turning_away-lead.ensures in
-    (few_at (known l) l.loop.invariant some here, small)
+    let at : Turn c.args.first.now c.loop-i.i c.loop-i.invariant.left = turn c.requires.scales.0 c.loop-i.invariant.few_left c.loop-i.invariant.from c.loop-i-test.true in
+    let some : 0 < c.loop-i.invariant.left = at.words.some in
+    let here : c.counts-at.result ≡ counts_in c.args.weights1 (grade_before (scale_in c.args.first.now) c.loop-i.invariant.left) = turn_counts at c.block_at-block.ensures c.args.weights1 c.counts-at.ensures in
+    let small = passed_fitting known c.loop-i.invariant some here c.turning_away-lead.ensures in record {
+      few = few_at known c.loop-i.invariant some here;
+      small = small;
+    }
 
 pub loop-i-smaller : goal.loop-i-smaller
 loop-i-smaller c =
-    let start : tie.Start invariant-loop decreases-loop = c in
-    let at : Turn start.args.first.now c.loop-i.i c.loop-i.invariant.left = turn start.requires.0.0 c.loop-i.invariant.few_left c.loop-i.invariant.from c.loop-i-test.true in
+    let at : Turn c.args.first.now c.loop-i.i c.loop-i.invariant.left = turn c.requires.scales.0 c.loop-i.invariant.few_left c.loop-i.invariant.from c.loop-i-test.true in
     omega (arith, at.words.high)
 
 pub loop-i-preserved : goal.loop-i-preserved
 loop-i-preserved c =
-    let start : tie.Start invariant-loop decreases-loop = c in
-    let known : let a = start.args in Scales a.weights1 a.weights2 (scale_in a.first.now) (scale_in a.second.now) = let (both, more) = start.requires in
+    let known : let a = c.args in Scales a.weights1 a.weights2 (scale_in a.first.now) (scale_in a.second.now) = let (both, more) = c.requires in
     scales _ _ both.0 both.1 more.0.0 more.0.1 more.1 in
-    let top : tie.At-loop invariant-loop decreases-loop = c in
-    let at : Turn start.args.first.now c.loop-i.i c.loop-i.invariant.left = turn start.requires.0.0 c.loop-i.invariant.few_left c.loop-i.invariant.from c.loop-i-test.true in
-    let some : 0 < top.loop.inv.left = at.words.some in
-    let here : c.counts-at.result ≡ counts_in (start top).args.weights1 (grade_before (scale_in (start top).args.first.now) top.loop.inv.left) = turn_counts at c.block_at-block.ensures (start top).args.weights1 c.counts-at.ensures in
-    let l = top in
-    passes (known l) l.loop.invariant some here c.turning_away-lead.ensures
+    let at : Turn c.args.first.now c.loop-i.i c.loop-i.invariant.left = turn c.requires.scales.0 c.loop-i.invariant.few_left c.loop-i.invariant.from c.loop-i-test.true in
+    let some : 0 < c.loop-i.invariant.left = at.words.some in
+    let here : c.counts-at.result ≡ counts_in c.args.weights1 (grade_before (scale_in c.args.first.now) c.loop-i.invariant.left) = turn_counts at c.block_at-block.ensures c.args.weights1 c.counts-at.ensures in
+    passes known c.loop-i.invariant some here c.turning_away-lead.ensures
     c.shows_dearer.ensures c.if-shows_dearer.false c.passed-lead.ensures
 
 pub returns : goal.returns
 returns c =
-    let start : tie.Start invariant-loop decreases-loop = c in
-    let at : Turn start.args.first.now c.loop-i.i c.loop-i.invariant.left = turn start.requires.0.0 c.loop-i.invariant.few_left c.loop-i.invariant.from c.loop-i-test.true in
+    let at : Turn c.args.first.now c.loop-i.i c.loop-i.invariant.left = turn c.requires.scales.0 c.loop-i.invariant.few_left c.loop-i.invariant.from c.loop-i-test.true in
     let inv = c.loop-i.invariant in
     let e : inv.left ≡ 0 = omega (arith, c.loop-i-test.false, inv.from) in
     rw e at inv.tried

@@ -24,38 +24,8 @@ use Rattle.measures.specs.Measures.{height, farther}
 use Rattle.measures.specs.Private.{farthest_of}
 use Rattle.measures.proofs.Cutoffs.{turned_none, turned_suffix}
 use Rattle.measures.proofs.Signed.{difference_fits}
-use Rattle.measures.proofs.farthest.Invariants.{best_from, Tried, p, inside, few_curve, few_diagonal, Next, next, size}
+use Rattle.measures.proofs.farthest.Invariants.{best_from, Tried, p, inside, more_curve, more_diagonal, few_curve, few_diagonal, Next, next, best_new, best_kept, size, taken, left}
 use Rattle.measures.proofs.farthest.Goals as goal
-
-more_curve : {s : Survivors} {m : ℕ} → s.0 ≡ survivors_in (table_of p) → m ≡ get_or w (40 + (i - 1)) 0 * s.0
-    → a + m ≡ defaults_in (suffix p (i - 1)) * survivors_in (table_of p)
-unfolding defaults_in
-more_curve {s} {m} all e =    let n : m ≡ (grade_at p (i - 1)).defaults * survivors_in (table_of p) = rw (← f.defaults, ← all) e in
-    rw f.down (omega (arith, t.curve, n))
-
-more_diagonal : {d n m : ℕ} → d ≡ defaults_in (table_of p) → n ≡ survivors (grade_at p (i - 1)) → m ≡ d * n
-    → b + m ≡ survivors_in (suffix p (i - 1)) * defaults_in (table_of p)
-unfolding survivors_in
-more_diagonal {d} {n} {m} all e k =    let l : m ≡ defaults_in (table_of p) * survivors (grade_at p (i - 1)) = rw (← all, ← e) k in
-    rw f.down (omega (arith, t.diagonal, l))
-
--- The cutoff tried is the best so far, or the one kept is.
-best_new : kept < here → best farther f k' ≡ k'
-unfolding best
-best_new h = rw (s, ← p, ← rw s at q, lt-ltb kept here h)
-
-best_kept : here ≤ kept → best farther f k' ≡ best farther f k
-unfolding best
-best_kept h = rw (s, ← p, ← rw s at q, le-ltb kept here h)
-
-taken : far < here → (z : ℤ) → z ≡ sub_ℕ a b → Tried p (i - 1) a b (p.grades - (i - 1)) (of_z w64 z) here
-taken test z is =    let it = best_new (height (table_of p)) n.number t.distance size test in
-    let signed = to_z-of_z w64 z (rw is (difference_fits n.small_a n.small_b)) ∙ is ∙ n.here in
-    record { inside = n.inside; curve = n.curve; diagonal = n.diagonal; cutoff = rw it; high = rw it signed; distance = rw it size }
-
-left : here ≤ far → Tried p (i - 1) a b g h far
-left test =    let it = best_kept (height (table_of p)) n.number t.distance size test in
-    record { inside = n.inside; curve = n.curve; diagonal = n.diagonal; cutoff = rw it t.cutoff; high = rw it t.high; distance = rw it t.distance }
 
 none : (t : Table) → pos 0 ≡ height t 0
 unfolding defaults_in survivors_in
@@ -103,57 +73,40 @@ bounds-place-i c =
 pub overflow_add-curve : goal.overflow_add-curve
 overflow_add-curve c =
     let at : Turn c.args.place.now c.loop-i.i = turn _ _ c.requires.holds_table c.loop-i-test.true c.loop-i.invariant.inside in
-    let begun : tie.In-loop invariant-loop decreases-loop = c in
-    let curve-is : let l = begun.before in let p = place_in l.before.before.before.args.place.now in l.loop.curve + c.pairs_of-curve.result ≡ defaults_in (suffix p (l.loop.i - 1)) * survivors_in (table_of p) = let l = begun.before in
-    let pre = l.before.before.before.requires in
-    more_curve pre.0.sound (at begun) l.loop.invariant pre.1.1 c.pairs_of-curve.ensures in
-    let l = begun.before in
-    omega (arith, few_curve l.before.before.before.requires.0.sound (at begun) l.loop.invariant curve-is)
+    let curve-is : let p = place_in c.args.place.now in c.loop-i.curve + c.pairs_of-curve.result ≡ defaults_in (suffix p (c.loop-i.i - 1)) * survivors_in (table_of p) = let pre = c.requires in
+    more_curve pre.0.sound at c.loop-i.invariant pre.1.1 c.pairs_of-curve.ensures in
+    omega (arith, few_curve c.requires.holds_table.sound at c.loop-i.invariant curve-is)
 
 pub obligors_at-requires : goal.obligors_at-requires
 obligors_at-requires c =
     let at : Turn c.args.place.now c.loop-i.i = turn _ _ c.requires.holds_table c.loop-i-test.true c.loop-i.invariant.inside in
-    let begun : tie.In-loop invariant-loop decreases-loop = c in
-    let f = at begun in omega arith
+    let f = at in omega arith
 
 pub survivors-requires : goal.survivors-requires
 survivors-requires c =
     let at : Turn c.args.place.now c.loop-i.i = turn _ _ c.requires.holds_table c.loop-i-test.true c.loop-i.invariant.inside in
-    let begun : tie.In-loop invariant-loop decreases-loop = c in
-    let f = at begun in omega (arith, c.obligors_at.ensures)
+    let f = at in omega (arith, c.obligors_at.ensures)
 
 pub overflow_add-diagonal : goal.overflow_add-diagonal
 overflow_add-diagonal c =
     let at : Turn c.args.place.now c.loop-i.i = turn _ _ c.requires.holds_table c.loop-i-test.true c.loop-i.invariant.inside in
-    let begun : tie.In-loop invariant-loop decreases-loop = c in
-    let begun2 : tie.In-loop invariant-loop decreases-loop = begun in
-    let curve-is : let l = begun.before in let p = place_in l.before.before.before.args.place.now in l.loop.curve + c.pairs_of-curve.result ≡ defaults_in (suffix p (l.loop.i - 1)) * survivors_in (table_of p) = let l = begun.before in
-    let pre = l.before.before.before.requires in
-    more_curve pre.0.sound (at begun) l.loop.invariant pre.1.1 c.pairs_of-curve.ensures in
-    let diagonal-is : let l = begun2.before in let p = place_in l.before.before.before.args.place.now in l.loop.diagonal + c.pairs_of-diagonal.result ≡ survivors_in (suffix p (l.loop.i - 1)) * defaults_in (table_of p) = let l = begun2.before in
-    let pre = l.before.before.before.requires in
-    let f = at begun2 in
-    more_diagonal pre.0.sound f l.loop.invariant pre.1.0 (omega (arith, c.survivors.ensures, c.obligors_at.ensures)) c.pairs_of-diagonal.ensures in
-    let reached : let l = begun2.before in Next (place_in l.before.before.before.args.place.now) l.loop.i (l.loop.curve + c.pairs_of-curve.result) (l.loop.diagonal + c.pairs_of-diagonal.result) = let turn = begun2 in
-    let l = turn.before in
-    next l.before.before.before.requires.0.sound turn.loop-test.taken (at turn) l.loop.invariant curve-is diagonal-is in
+    let curve-is : let p = place_in c.args.place.now in c.loop-i.curve + c.pairs_of-curve.result ≡ defaults_in (suffix p (c.loop-i.i - 1)) * survivors_in (table_of p) = let pre = c.requires in
+    more_curve pre.0.sound at c.loop-i.invariant pre.1.1 c.pairs_of-curve.ensures in
+    let diagonal-is : let p = place_in c.args.place.now in c.loop-i.diagonal + c.pairs_of-diagonal.result ≡ survivors_in (suffix p (c.loop-i.i - 1)) * defaults_in (table_of p) = let pre = c.requires in
+    let f = at in
+    more_diagonal pre.0.sound f c.loop-i.invariant pre.1.0 (omega (arith, c.survivors.ensures, c.obligors_at.ensures)) c.pairs_of-diagonal.ensures in
+    let reached : Next (place_in c.args.place.now) c.loop-i.i (c.loop-i.curve + c.pairs_of-curve.result) (c.loop-i.diagonal + c.pairs_of-diagonal.result) = next c.requires.holds_table.sound c.loop-i-test.true at c.loop-i.invariant curve-is diagonal-is in
     let n = reached in omega (arith, n.small_b)
 
 pub difference-height-requires : goal.difference-height-requires
 difference-height-requires c =
     let at : Turn c.args.place.now c.loop-i.i = turn _ _ c.requires.holds_table c.loop-i-test.true c.loop-i.invariant.inside in
-    let begun : tie.In-loop invariant-loop decreases-loop = c in
-    let begun2 : tie.In-loop invariant-loop decreases-loop = begun in
-    let curve-is : let l = begun.before in let p = place_in l.before.before.before.args.place.now in l.loop.curve + c.pairs_of-curve.result ≡ defaults_in (suffix p (l.loop.i - 1)) * survivors_in (table_of p) = let l = begun.before in
-    let pre = l.before.before.before.requires in
-    more_curve pre.0.sound (at begun) l.loop.invariant pre.1.1 c.pairs_of-curve.ensures in
-    let diagonal-is : let l = begun2.before in let p = place_in l.before.before.before.args.place.now in l.loop.diagonal + c.pairs_of-diagonal.result ≡ survivors_in (suffix p (l.loop.i - 1)) * defaults_in (table_of p) = let l = begun2.before in
-    let pre = l.before.before.before.requires in
-    let f = at begun2 in
-    more_diagonal pre.0.sound f l.loop.invariant pre.1.0 (omega (arith, c.survivors.ensures, c.obligors_at.ensures)) c.pairs_of-diagonal.ensures in
-    let reached : let l = begun2.before in Next (place_in l.before.before.before.args.place.now) l.loop.i (l.loop.curve + c.pairs_of-curve.result) (l.loop.diagonal + c.pairs_of-diagonal.result) = let turn = begun2 in
-    let l = turn.before in
-    next l.before.before.before.requires.0.sound turn.loop-test.taken (at turn) l.loop.invariant curve-is diagonal-is in
+    let curve-is : let p = place_in c.args.place.now in c.loop-i.curve + c.pairs_of-curve.result ≡ defaults_in (suffix p (c.loop-i.i - 1)) * survivors_in (table_of p) = let pre = c.requires in
+    more_curve pre.0.sound at c.loop-i.invariant pre.1.1 c.pairs_of-curve.ensures in
+    let diagonal-is : let p = place_in c.args.place.now in c.loop-i.diagonal + c.pairs_of-diagonal.result ≡ survivors_in (suffix p (c.loop-i.i - 1)) * defaults_in (table_of p) = let pre = c.requires in
+    let f = at in
+    more_diagonal pre.0.sound f c.loop-i.invariant pre.1.0 (omega (arith, c.survivors.ensures, c.obligors_at.ensures)) c.pairs_of-diagonal.ensures in
+    let reached : Next (place_in c.args.place.now) c.loop-i.i (c.loop-i.curve + c.pairs_of-curve.result) (c.loop-i.diagonal + c.pairs_of-diagonal.result) = next c.requires.holds_table.sound c.loop-i-test.true at c.loop-i.invariant curve-is diagonal-is in
     let n = reached in (n.small_a, n.small_b)
 
 pub overflow_sub-cutoff : goal.overflow_sub-cutoff
@@ -162,46 +115,30 @@ overflow_sub-cutoff c = omega arith
 pub overflow_cast-cutoff : goal.overflow_cast-cutoff
 overflow_cast-cutoff c =
     let at : Turn c.args.place.now c.loop-i.i = turn _ _ c.requires.holds_table c.loop-i-test.true c.loop-i.invariant.inside in
-    let begun : tie.In-loop invariant-loop decreases-loop = c in
-    let begun2 : tie.In-loop invariant-loop decreases-loop = begun in
-    let f = at begun2 in omega arith
+    let f = at in omega arith
 
 pub loop-i-preserved-then-distance-here : goal.loop-i-preserved-then-distance-here
 loop-i-preserved-then-distance-here c =
-    let begun : tie.In-loop invariant-loop decreases-loop = c in
-    let begun2 : tie.In-loop invariant-loop decreases-loop = begun in
     let at : Turn c.args.place.now c.loop-i.i = turn _ _ c.requires.holds_table c.loop-i-test.true c.loop-i.invariant.inside in
-    let curve-is : let l = begun.before in let p = place_in l.before.before.before.args.place.now in l.loop.curve + c.pairs_of-curve.result ≡ defaults_in (suffix p (l.loop.i - 1)) * survivors_in (table_of p) = let l = begun.before in
-    let pre = l.before.before.before.requires in
-    more_curve pre.0.sound (at begun) l.loop.invariant pre.1.1 c.pairs_of-curve.ensures in
-    let diagonal-is : let l = begun2.before in let p = place_in l.before.before.before.args.place.now in l.loop.diagonal + c.pairs_of-diagonal.result ≡ survivors_in (suffix p (l.loop.i - 1)) * defaults_in (table_of p) = let l = begun2.before in
-    let pre = l.before.before.before.requires in
-    let f = at begun2 in
-    more_diagonal pre.0.sound f l.loop.invariant pre.1.0 (omega (arith, c.survivors.ensures, c.obligors_at.ensures)) c.pairs_of-diagonal.ensures in
-    let reached : let l = begun2.before in Next (place_in l.before.before.before.args.place.now) l.loop.i (l.loop.curve + c.pairs_of-curve.result) (l.loop.diagonal + c.pairs_of-diagonal.result) = let turn = begun2 in
-    let l = turn.before in
-    next l.before.before.before.requires.0.sound turn.loop-test.taken (at turn) l.loop.invariant curve-is diagonal-is in
-    let l = begun2.before in
-    rw l.before.grades-of.ensures
-    (taken reached l.loop.invariant c.apart-here.ensures c.if-distance-here.true c.difference-height.result c.difference-height.ensures)
+    let curve-is : let p = place_in c.args.place.now in c.loop-i.curve + c.pairs_of-curve.result ≡ defaults_in (suffix p (c.loop-i.i - 1)) * survivors_in (table_of p) = let pre = c.requires in
+    more_curve pre.0.sound at c.loop-i.invariant pre.1.1 c.pairs_of-curve.ensures in
+    let diagonal-is : let p = place_in c.args.place.now in c.loop-i.diagonal + c.pairs_of-diagonal.result ≡ survivors_in (suffix p (c.loop-i.i - 1)) * defaults_in (table_of p) = let pre = c.requires in
+    let f = at in
+    more_diagonal pre.0.sound f c.loop-i.invariant pre.1.0 (omega (arith, c.survivors.ensures, c.obligors_at.ensures)) c.pairs_of-diagonal.ensures in
+    let reached : Next (place_in c.args.place.now) c.loop-i.i (c.loop-i.curve + c.pairs_of-curve.result) (c.loop-i.diagonal + c.pairs_of-diagonal.result) = next c.requires.holds_table.sound c.loop-i-test.true at c.loop-i.invariant curve-is diagonal-is in
+    rw c.grades_of-grades.ensures
+    (taken reached c.loop-i.invariant c.apart-here.ensures c.if-distance-here.true c.difference-height.result c.difference-height.ensures)
 
 pub loop-i-preserved : goal.loop-i-preserved
 loop-i-preserved c =
-    let begun : tie.In-loop invariant-loop decreases-loop = c in
-    let begun2 : tie.In-loop invariant-loop decreases-loop = begun in
     let at : Turn c.args.place.now c.loop-i.i = turn _ _ c.requires.holds_table c.loop-i-test.true c.loop-i.invariant.inside in
-    let curve-is : let l = begun.before in let p = place_in l.before.before.before.args.place.now in l.loop.curve + c.pairs_of-curve.result ≡ defaults_in (suffix p (l.loop.i - 1)) * survivors_in (table_of p) = let l = begun.before in
-    let pre = l.before.before.before.requires in
-    more_curve pre.0.sound (at begun) l.loop.invariant pre.1.1 c.pairs_of-curve.ensures in
-    let diagonal-is : let l = begun2.before in let p = place_in l.before.before.before.args.place.now in l.loop.diagonal + c.pairs_of-diagonal.result ≡ survivors_in (suffix p (l.loop.i - 1)) * defaults_in (table_of p) = let l = begun2.before in
-    let pre = l.before.before.before.requires in
-    let f = at begun2 in
-    more_diagonal pre.0.sound f l.loop.invariant pre.1.0 (omega (arith, c.survivors.ensures, c.obligors_at.ensures)) c.pairs_of-diagonal.ensures in
-    let reached : let l = begun2.before in Next (place_in l.before.before.before.args.place.now) l.loop.i (l.loop.curve + c.pairs_of-curve.result) (l.loop.diagonal + c.pairs_of-diagonal.result) = let turn = begun2 in
-    let l = turn.before in
-    next l.before.before.before.requires.0.sound turn.loop-test.taken (at turn) l.loop.invariant curve-is diagonal-is in
-    let l = begun2.before in
-    left reached l.loop.invariant c.apart-here.ensures c.if-distance-here.false
+    let curve-is : let p = place_in c.args.place.now in c.loop-i.curve + c.pairs_of-curve.result ≡ defaults_in (suffix p (c.loop-i.i - 1)) * survivors_in (table_of p) = let pre = c.requires in
+    more_curve pre.0.sound at c.loop-i.invariant pre.1.1 c.pairs_of-curve.ensures in
+    let diagonal-is : let p = place_in c.args.place.now in c.loop-i.diagonal + c.pairs_of-diagonal.result ≡ survivors_in (suffix p (c.loop-i.i - 1)) * defaults_in (table_of p) = let pre = c.requires in
+    let f = at in
+    more_diagonal pre.0.sound f c.loop-i.invariant pre.1.0 (omega (arith, c.survivors.ensures, c.obligors_at.ensures)) c.pairs_of-diagonal.ensures in
+    let reached : Next (place_in c.args.place.now) c.loop-i.i (c.loop-i.curve + c.pairs_of-curve.result) (c.loop-i.diagonal + c.pairs_of-diagonal.result) = next c.requires.holds_table.sound c.loop-i-test.true at c.loop-i.invariant curve-is diagonal-is in
+    left reached c.loop-i.invariant c.apart-here.ensures c.if-distance-here.false
 
 pub returns : goal.returns
 returns c = farthest_is _ _ _ _ _ _ _ (omega arith) c.loop-i.invariant

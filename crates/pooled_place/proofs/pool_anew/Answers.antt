@@ -36,13 +36,11 @@ write_blocks-requires c =
     let f = c.blocks_of-start in
     let sound = c.requires.1 in
     let n = count in
-    let l = ap length (list_part words) ∙ length_list words c.requires.0 in (
-      (held_exact table sound _ held, f.ensures.length, f.ensures.blocks.1),
-      (
-        held_rising table sound _ held,
-        (omega (arith, n, held_count table sound _ held), omega (arith, n, sound.few), omega (arith, n, sound.few, l)),
-      ),
-    )
+    let l = ap length (list_part words) ∙ length_list words c.requires.0 in record {
+      held = (held_exact table sound _ held, f.ensures.length, f.ensures.blocks.1);
+      rising = held_rising table sound _ held;
+      room = (omega (arith, n, held_count table sound _ held), omega (arith, n, sound.few), omega (arith, n, sound.few, l));
+    }
 
 pub returns : goal.returns
 returns c =

@@ -27,9 +27,19 @@ pub record Climbed (p : Place) (items : List ℕ) (i grades at : ℕ) : Type 0 w
   pub waits : grades ≡ waiting (suffix p i) + 1
   pub stored : drop at items ≡ block_words (behind_waiting (suffix p i))
 
--- What the grades passed hold.
-abbrev pub p : Place
-p = place_in w
+module _ {w items : List ℕ} {i grades at : ℕ} (holds : HoldsTable w) (inv : Climbed (place_in w) items i grades at) where
+  -- What the grades passed hold.
+  abbrev pub p : Place
+  p = place_in w
+
+  pub sums : Sums (suffix p i) (waiting (suffix p i)) (behind_waiting (suffix p i))
+  sums = behind_sums (suffix p i) (every_suffix Counted p i inv.inside holds.sound.counted)
+
+  pub few_wait : grades ≤ 41
+  few_wait = omega (arith, inv.waits, sums.grades, (small p i holds.sound inv.inside).grades)
+
+  pub back : blocks_in_lem (drop at items) ≡ behind_waiting (suffix p i)
+  back = ap blocks_in_lem inv.stored ∙ blocks_back (behind_waiting (suffix p i))
 
 abbrev pub invariant-loop-i : goal.invariant-loop-i
 invariant-loop-i l = Climbed (place_in l.place) l.items l.i l.grades l.at

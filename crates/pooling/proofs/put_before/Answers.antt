@@ -14,49 +14,54 @@ use Rattle.pooling.proofs.Words.{First, first, no_block}
 use Rattle.pooling.proofs.put_before.Invariants.{Joining}
 use Rattle.pooling.proofs.put_before.Goals as goal
 
--- What a turn does: it joins the block in hand with the next, or it stores it.
--- The block in hand stays before the others.
-abbrev Stays : Type 0
-Stays = b ∷ inv.rest ≡ all
+module _ {all : List Block} {b : Block} {items : List ℕ} {at : ℕ} (inv : Joining all b items at) where
+  -- What a turn does: it joins the block in hand with the next, or it stores it.
+  -- The block in hand stays before the others.
+  abbrev Stays : Type 0
+  Stays = b ∷ inv.rest ≡ all
 
--- There is a next block, x.
-next : First items at inv.rest
-next = first items at inv.rest inv.stored (omega (arith, inv.long))
+module _ {all : List Block} {b : Block} {items : List ℕ} {at : ℕ} (inv : Joining all b items at) (h : at < 120) where
+  -- There is a next block, x.
+  next : First items at inv.rest
+  next = first items at inv.rest inv.stored (omega (arith, inv.long))
 
-split : inv.rest ≡ x ∷ next.others
-split = rw read_next next.split
+module _ {all : List Block} {b : Block} {items : List ℕ} {at : ℕ} (inv : Joining all b items at) (h : at < 120) (x : Block) (read_next : x ≡ block_at_lem items at) where
+  split : inv.rest ≡ x ∷ next.others
+  split = rw read_next next.split
 
-both : Fitting (join b (join x (sum_of next.others)))
-unfolding sum_of
-both = rw split at inv.fits
+  both : Fitting (join b (join x (sum_of next.others)))
+  unfolding sum_of
+  both = rw split at inv.fits
 
-joins : rate_below b x ≡ false → Joining all (join b x) items (at + 3)
-unfolding front
-joins e = record {
-  room = omega arith;
-  short = omega (arith, next.room, inv.long);
-  long = inv.long;
-  rest = next.others;
-  stored = next.words;
-  fits = let f = both in (omega arith, omega arith, omega arith);
-  same = rw (split, e) at inv.same;
-}
+  joins : rate_below b x ≡ false → Joining all (join b x) items (at + 3)
+  unfolding front
+  joins e = record {
+    room = omega arith;
+    short = omega (arith, next.room, inv.long);
+    long = inv.long;
+    rest = next.others;
+    stored = next.words;
+    fits = let f = both in (omega arith, omega arith, omega arith);
+    same = rw (split, e) at inv.same;
+  }
 
-below : rate_below b x ≡ true → Stays
-unfolding front
-below e = rw split (rw (split, e) at inv.same)
+  below : rate_below b x ≡ true → Stays
+  unfolding front
+  below e = rw split (rw (split, e) at inv.same)
 
-alone : 120 ≤ at → Stays
-unfolding front
-alone h = let n = no_block items at inv.rest inv.stored (omega (arith, inv.long)) in rw n (rw n at inv.same)
+module _ {all : List Block} {b : Block} {items : List ℕ} {at : ℕ} (inv : Joining all b items at) where
+  alone : 120 ≤ at → Stays
+  unfolding front
+  alone h = let n = no_block items at inv.rest inv.stored (omega (arith, inv.long)) in rw n (rw n at inv.same)
 
--- The block in hand is stored: `new` are the items then.
-words : drop (at - 3) new ≡ block_words (b ∷ inv.rest)
-unfolding block_words
-words = let e : at - 3 + 3 ≡ at = omega (arith, inv.room) in rw (e, inv.stored) at put
+module _ {all : List Block} {b : Block} {items : List ℕ} {at : ℕ} (inv : Joining all b items at) (new : List ℕ) (put : drop (at - 3) new ≡ b.grades ∷ b.obligors.0 ∷ b.defaults ∷ drop (at - 3 + 3) items) where
+  -- The block in hand is stored: `new` are the items then.
+  words : drop (at - 3) new ≡ block_words (b ∷ inv.rest)
+  unfolding block_words
+  words = let e : at - 3 + 3 ≡ at = omega (arith, inv.room) in rw (e, inv.stored) at put
 
-full : length new ≡ 120
-full = omega (arith, inv.room, inv.short, inv.long, sym (length-drop (at - 3) new) ∙ ap length put, length-drop (at - 3 + 3) items)
+  full : length new ≡ 120
+  full = omega (arith, inv.room, inv.short, inv.long, sym (length-drop (at - 3) new) ∙ ap length put, length-drop (at - 3 + 3) items)
 
 pub loop-at-init : goal.loop-at-init
 loop-at-init c =
@@ -78,8 +83,11 @@ is_below-requires c = tt
 
 pub joined-b-requires : goal.joined-b-requires
 joined-b-requires c =
-    let f = both c.loop-at.invariant c.if-at-lt-BLOCKS.true _ c.block_at-next.ensures in
-    (omega arith, (omega arith, omega arith))
+    let f = both c.loop-at.invariant c.if-at-lt-BLOCKS.true _ c.block_at-next.ensures in record {
+      grades = omega arith;
+      obligors = omega arith;
+      defaults = omega arith;
+    }
 
 pub overflow_add-at : goal.overflow_add-at
 overflow_add-at c = omega arith

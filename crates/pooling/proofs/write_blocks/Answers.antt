@@ -70,74 +70,69 @@ loop-at-init c =
 
 pub overflow_sub-at : goal.overflow_sub-at
 overflow_sub-at c =
-    let begun : tie.Start invariant-loop decreases-loop = c in
-    let items : List ℕ = begun.args.items.now in
-    let blocks : List Block = blocks_in_lem (drop begun.args.start items) in
-    let at : Turn blocks items begun.args.start c.loop-at.at c.loop-at.invariant.1.between.count = let inv = c.loop-at.invariant.1 in turn _ _ _ _ inv.held inv.rising inv.between c.loop-at.invariant.0 in
+    let items : List ℕ = c.args.items.now in
+    let blocks : List Block = blocks_in_lem (drop c.args.start items) in
+    let at : Turn blocks items c.args.start c.loop-at.at c.loop-at.invariant.1.between.count = let inv = c.loop-at.invariant.1 in turn _ _ _ _ inv.held inv.rising inv.between c.loop-at.invariant.0 in
     at.block.high
 
 pub block_at-x-requires : goal.block_at-x-requires
 block_at-x-requires c =
-    let begun : tie.Start invariant-loop decreases-loop = c in
-    let items : List ℕ = begun.args.items.now in
-    let blocks : List Block = blocks_in_lem (drop begun.args.start items) in
-    let at : Turn blocks items begun.args.start c.loop-at.at c.loop-at.invariant.1.between.count = let inv = c.loop-at.invariant.1 in turn _ _ _ _ inv.held inv.rising inv.between c.loop-at.invariant.0 in
+    let items : List ℕ = c.args.items.now in
+    let blocks : List Block = blocks_in_lem (drop c.args.start items) in
+    let at : Turn blocks items c.args.start c.loop-at.at c.loop-at.invariant.1.between.count = let inv = c.loop-at.invariant.1 in turn _ _ _ _ inv.held inv.rising inv.between c.loop-at.invariant.0 in
     at.block.room
 
 -- The constant has the listed limits.
 pub band-band-requires : goal.band-band-requires
 unfolding listed_limits
 band-band-requires c =
-    let begun : tie.Start invariant-loop decreases-loop = c in
-    let items : List ℕ = begun.args.items.now in
-    let blocks : List Block = blocks_in_lem (drop begun.args.start items) in
-    let at : Turn blocks items begun.args.start c.loop-at.at c.loop-at.invariant.1.between.count = let inv = c.loop-at.invariant.1 in turn _ _ _ _ inv.held inv.rising inv.between c.loop-at.invariant.0 in
+    let items : List ℕ = c.args.items.now in
+    let blocks : List Block = blocks_in_lem (drop c.args.start items) in
+    let at : Turn blocks items c.args.start c.loop-at.at c.loop-at.invariant.1.between.count = let inv = c.loop-at.invariant.1 in turn _ _ _ _ inv.held inv.rising inv.between c.loop-at.invariant.0 in
     let is : c.block_at-x.result ≡ nth blocks (c.loop-at.invariant.1.between.count - 1) = c.block_at-x.ensures ∙ at.block.here in
-    let turned : tie.At-loop invariant-loop decreases-loop = c in
-    let inv = turned.loop.inv in
-    (refl, (rw is (inv.1.most inv.0), inv.1.few))
+    let inv = c.loop-at.invariant in record {
+      limits = refl;
+      most = (rw is (inv.1.most inv.0), inv.1.few);
+    }
 
 pub overflow_cast-band : goal.overflow_cast-band
 overflow_cast-band c = omega (arith, c.band-band.ensures, (band_right c.block_at-x.result).within)
 
 pub write_block-requires : goal.write_block-requires
 write_block-requires c =
-    let begun : tie.Start invariant-loop decreases-loop = c in
-    let items : List ℕ = begun.args.items.now in
-    let blocks : List Block = blocks_in_lem (drop begun.args.start items) in
-    let at : Turn blocks items begun.args.start c.loop-at.at c.loop-at.invariant.1.between.count = let inv = c.loop-at.invariant.1 in turn _ _ _ _ inv.held inv.rising inv.between c.loop-at.invariant.0 in
+    let items : List ℕ = c.args.items.now in
+    let blocks : List Block = blocks_in_lem (drop c.args.start items) in
+    let at : Turn blocks items c.args.start c.loop-at.at c.loop-at.invariant.1.between.count = let inv = c.loop-at.invariant.1 in turn _ _ _ _ inv.held inv.rising inv.between c.loop-at.invariant.0 in
     let is : c.block_at-x.result ≡ nth blocks (c.loop-at.invariant.1.between.count - 1) = c.block_at-x.ensures ∙ at.block.here in
-    let turned : tie.At-loop invariant-loop decreases-loop = c in
-    let fewer : 3 * c.block_at-x.result.grades ≤ turned.loop.end = let inv = turned.loop.inv.1 in
-    omega (arith, inv.all, inv.count, (at turned).fewer, ap (λ x. x.grades) is) in
-    let within : turned.loop.end ≤ length turned.loop.out = let inv = turned.loop.inv.1 in omega (arith, inv.count, inv.room, inv.long) in
-    (c.band-band.ensures, (fewer, within))
+    let fewer : 3 * c.block_at-x.result.grades ≤ c.loop-at.end = let inv = c.loop-at.invariant.1 in
+    omega (arith, inv.all, inv.count, at.fewer, ap (λ x. x.grades) is) in
+    let within : c.loop-at.end ≤ length c.loop-at.out = let inv = c.loop-at.invariant.1 in omega (arith, inv.count, inv.room, inv.long) in
+    record {
+      band = c.band-band.ensures;
+      room = (fewer, within);
+    }
 
 pub returns-then-at-start : goal.returns-then-at-start
 unfolding numbers_of_lem sum_of
 returns-then-at-start c =
-    let begun : tie.Start invariant-loop decreases-loop = c in
-    let items : List ℕ = begun.args.items.now in
-    let blocks : List Block = blocks_in_lem (drop begun.args.start items) in
-    let at : Turn blocks items begun.args.start c.loop-at.at c.loop-at.invariant.1.between.count = let inv = c.loop-at.invariant.1 in turn _ _ _ _ inv.held inv.rising inv.between c.loop-at.invariant.0 in
-    let read : tie.After-block-at invariant-loop decreases-loop = c in
-    let turned : tie.At-loop invariant-loop decreases-loop = c in
-    let top : tie.At-loop invariant-loop decreases-loop = turned read in
-    let ends : ℕ = top.loop.end - 3 * read.block_at.result.grades in
+    let items : List ℕ = c.args.items.now in
+    let blocks : List Block = blocks_in_lem (drop c.args.start items) in
+    let at : Turn blocks items c.args.start c.loop-at.at c.loop-at.invariant.1.between.count = let inv = c.loop-at.invariant.1 in turn _ _ _ _ inv.held inv.rising inv.between c.loop-at.invariant.0 in
+    let ends : ℕ = c.loop-at.end - 3 * c.block_at-x.result.grades in
     let is : c.block_at-x.result ≡ nth blocks (c.loop-at.invariant.1.between.count - 1) = c.block_at-x.ensures ∙ at.block.here in
-    let fewer : 3 * c.block_at-x.result.grades ≤ turned.loop.end = let inv = turned.loop.inv.1 in
-    omega (arith, inv.all, inv.count, (at turned).fewer, ap (λ x. x.grades) is) in
-    let written : Written (blocks top) (items top) (begun top).args.start (3 * (begun top).args.grades)
-    (begun top).args.out.now c.write_block.new.band.1.1.0 ends (top.loop.at - 3) c.band-band.result = let f = at top in
-    let inv = top.loop.inv.1 in
+    let fewer : 3 * c.block_at-x.result.grades ≤ c.loop-at.end = let inv = c.loop-at.invariant.1 in
+    omega (arith, inv.all, inv.count, at.fewer, ap (λ x. x.grades) is) in
+    let written : Written blocks items c.args.start (3 * c.args.grades)
+    c.args.out.now c.write_block.new.band.1.1.0 ends (c.loop-at.at - 3) c.band-band.result = let f = at in
+    let inv = c.loop-at.invariant.1 in
     let k = inv.between.count in
     let b = c.band-band.ensures in
-    let o = (begun top).args.out.now in
-    let x = read.block_at.result in
-    let split = f.block.from ∙ ap (λ y. y ∷ drop k (blocks top)) (sym (is read)) in
-    let end = top.loop.end in
+    let o = c.args.out.now in
+    let x = c.block_at-x.result in
+    let split = f.block.from ∙ ap (λ y. y ∷ drop k blocks) (sym is) in
+    let end = c.loop-at.end in
     let short : end ≤ length o = omega (arith, inv.count, inv.room) in
-    let more = put_more o _ top.loop.out end ends (grades_of_lem x x.grades) inv.same (omega arith) short in
+    let more = put_more o _ c.loop-at.out end ends (grades_of_lem x x.grades) inv.same (omega arith) short in
     record {
       held = inv.held;
       full = inv.full;
@@ -148,8 +143,8 @@ returns-then-at-start c =
       room = inv.room;
       long = c.write_block.auto.1.1.1.0 ∙ inv.long;
       few = omega (arith, b, (band_right x).within);
-      most = λ h. omega (arith, b, ap band_of (is read), f.lower h);
-      count = rw split (omega (arith, inv.count, fewer read));
+      most = λ h. omega (arith, b, ap band_of is, f.lower h);
+      count = rw split (omega (arith, inv.count, fewer));
       same = rw split (rw more at c.write_block.ensures);
     } in
     let w = written in
@@ -159,30 +154,24 @@ returns-then-at-start c =
 
 pub overflow_mul-end-in-loop-at : goal.overflow_mul-end-in-loop-at
 overflow_mul-end-in-loop-at c =
-    let turned : tie.At-loop invariant-loop decreases-loop = c in
-    let begun : tie.Start invariant-loop decreases-loop = c in
-    let items : List ℕ = begun.args.items.now in
-    let blocks : List Block = blocks_in_lem (drop begun.args.start items) in
-    let at : Turn blocks items begun.args.start c.loop-at.at c.loop-at.invariant.1.between.count = let inv = c.loop-at.invariant.1 in turn _ _ _ _ inv.held inv.rising inv.between c.loop-at.invariant.0 in
+    let items : List ℕ = c.args.items.now in
+    let blocks : List Block = blocks_in_lem (drop c.args.start items) in
+    let at : Turn blocks items c.args.start c.loop-at.at c.loop-at.invariant.1.between.count = let inv = c.loop-at.invariant.1 in turn _ _ _ _ inv.held inv.rising inv.between c.loop-at.invariant.0 in
     let is : c.block_at-x.result ≡ nth blocks (c.loop-at.invariant.1.between.count - 1) = c.block_at-x.ensures ∙ at.block.here in
-    let fewer : 3 * c.block_at-x.result.grades ≤ turned.loop.end = let inv = turned.loop.inv.1 in
-    omega (arith, inv.all, inv.count, (at turned).fewer, ap (λ x. x.grades) is) in
-    let fits : Fits w64 (3 * c.block_at-x.result.grades) = let inv = turned.loop.inv.1 in omega (arith, fewer, inv.count, inv.small) in
-    let read : tie.After-block-at invariant-loop decreases-loop = c in
-    fits read
+    let fewer : 3 * c.block_at-x.result.grades ≤ c.loop-at.end = let inv = c.loop-at.invariant.1 in
+    omega (arith, inv.all, inv.count, at.fewer, ap (λ x. x.grades) is) in
+    let fits : Fits w64 (3 * c.block_at-x.result.grades) = let inv = c.loop-at.invariant.1 in omega (arith, fewer, inv.count, inv.small) in
+    fits
 
 pub overflow_sub-end : goal.overflow_sub-end
 overflow_sub-end c =
-    let begun : tie.Start invariant-loop decreases-loop = c in
-    let items : List ℕ = begun.args.items.now in
-    let blocks : List Block = blocks_in_lem (drop begun.args.start items) in
-    let at : Turn blocks items begun.args.start c.loop-at.at c.loop-at.invariant.1.between.count = let inv = c.loop-at.invariant.1 in turn _ _ _ _ inv.held inv.rising inv.between c.loop-at.invariant.0 in
+    let items : List ℕ = c.args.items.now in
+    let blocks : List Block = blocks_in_lem (drop c.args.start items) in
+    let at : Turn blocks items c.args.start c.loop-at.at c.loop-at.invariant.1.between.count = let inv = c.loop-at.invariant.1 in turn _ _ _ _ inv.held inv.rising inv.between c.loop-at.invariant.0 in
     let is : c.block_at-x.result ≡ nth blocks (c.loop-at.invariant.1.between.count - 1) = c.block_at-x.ensures ∙ at.block.here in
-    let turned : tie.At-loop invariant-loop decreases-loop = c in
-    let fewer : 3 * c.block_at-x.result.grades ≤ turned.loop.end = let inv = turned.loop.inv.1 in
-    omega (arith, inv.all, inv.count, (at turned).fewer, ap (λ x. x.grades) is) in
-    let read : tie.After-block-at invariant-loop decreases-loop = c in
-    fewer read
+    let fewer : 3 * c.block_at-x.result.grades ≤ c.loop-at.end = let inv = c.loop-at.invariant.1 in
+    omega (arith, inv.all, inv.count, at.fewer, ap (λ x. x.grades) is) in
+    fewer
 
 pub loop-at-smaller : goal.loop-at-smaller
 loop-at-smaller c = omega arith
@@ -190,28 +179,24 @@ loop-at-smaller c = omega arith
 pub loop-at-preserved : goal.loop-at-preserved
 unfolding numbers_of_lem sum_of
 loop-at-preserved c =
-    let begun : tie.Start invariant-loop decreases-loop = c in
-    let items : List ℕ = begun.args.items.now in
-    let blocks : List Block = blocks_in_lem (drop begun.args.start items) in
-    let at : Turn blocks items begun.args.start c.loop-at.at c.loop-at.invariant.1.between.count = let inv = c.loop-at.invariant.1 in turn _ _ _ _ inv.held inv.rising inv.between c.loop-at.invariant.0 in
+    let items : List ℕ = c.args.items.now in
+    let blocks : List Block = blocks_in_lem (drop c.args.start items) in
+    let at : Turn blocks items c.args.start c.loop-at.at c.loop-at.invariant.1.between.count = let inv = c.loop-at.invariant.1 in turn _ _ _ _ inv.held inv.rising inv.between c.loop-at.invariant.0 in
     let is : c.block_at-x.result ≡ nth blocks (c.loop-at.invariant.1.between.count - 1) = c.block_at-x.ensures ∙ at.block.here in
-    let turned : tie.At-loop invariant-loop decreases-loop = c in
-    let fewer : 3 * c.block_at-x.result.grades ≤ turned.loop.end = let inv = turned.loop.inv.1 in
-    omega (arith, inv.all, inv.count, (at turned).fewer, ap (λ x. x.grades) is) in
-    let read : tie.After-block-at invariant-loop decreases-loop = c in
-    let top : tie.At-loop invariant-loop decreases-loop = turned read in
-    let ends : ℕ = top.loop.end - 3 * read.block_at.result.grades in
-    let written : Written (blocks top) (items top) (begun top).args.start (3 * (begun top).args.grades)
-    (begun top).args.out.now c.write_block.new.band.1.1.0 ends (top.loop.at - 3) c.band-band.result = let f = at top in
-    let inv = top.loop.inv.1 in
+    let fewer : 3 * c.block_at-x.result.grades ≤ c.loop-at.end = let inv = c.loop-at.invariant.1 in
+    omega (arith, inv.all, inv.count, at.fewer, ap (λ x. x.grades) is) in
+    let ends : ℕ = c.loop-at.end - 3 * c.block_at-x.result.grades in
+    let written : Written blocks items c.args.start (3 * c.args.grades)
+    c.args.out.now c.write_block.new.band.1.1.0 ends (c.loop-at.at - 3) c.band-band.result = let f = at in
+    let inv = c.loop-at.invariant.1 in
     let k = inv.between.count in
     let b = c.band-band.ensures in
-    let o = (begun top).args.out.now in
-    let x = read.block_at.result in
-    let split = f.block.from ∙ ap (λ y. y ∷ drop k (blocks top)) (sym (is read)) in
-    let end = top.loop.end in
+    let o = c.args.out.now in
+    let x = c.block_at-x.result in
+    let split = f.block.from ∙ ap (λ y. y ∷ drop k blocks) (sym is) in
+    let end = c.loop-at.end in
     let short : end ≤ length o = omega (arith, inv.count, inv.room) in
-    let more = put_more o _ top.loop.out end ends (grades_of_lem x x.grades) inv.same (omega arith) short in
+    let more = put_more o _ c.loop-at.out end ends (grades_of_lem x x.grades) inv.same (omega arith) short in
     record {
       held = inv.held;
       full = inv.full;
@@ -222,8 +207,8 @@ loop-at-preserved c =
       room = inv.room;
       long = c.write_block.auto.1.1.1.0 ∙ inv.long;
       few = omega (arith, b, (band_right x).within);
-      most = λ h. omega (arith, b, ap band_of (is read), f.lower h);
-      count = rw split (omega (arith, inv.count, fewer read));
+      most = λ h. omega (arith, b, ap band_of is, f.lower h);
+      count = rw split (omega (arith, inv.count, fewer));
       same = rw split (rw more at c.write_block.ensures);
     } in
     let w = written in

@@ -39,34 +39,35 @@ stored w a s d long few =    let v = set w a s in
       defaulted_else = λ h l other. get_or-set_other v (41 + a) (41 + h) d 0 (λ x. other (omega arith)) ∙ get_or-set_other w a (41 + h) s 0 (λ x. omega arith);
     }
 
--- Grade i - 1 more, with y survivors.
-abbrev x : ℕ
-x = get_or place (40 + (i - 1)) 0
+module _ {place : List ℕ} {i : ℕ} {s : Survivors} {d : ℕ} {w : List ℕ} (m : Summed (place_in place) i s d w) (t : Turn place i) (up : 0 < i) {y : ℕ} (e : y ≡ get_or place (i - 1) 0 - get_or place (40 + (i - 1)) 0) where
+  -- Grade i - 1 more, with y survivors.
+  abbrev x : ℕ
+  x = get_or place (40 + (i - 1)) 0
 
-enough : (s.0 + y ≤ 1_000_000) × (d + x ≤ 1_000_000)
-unfolding survivors_in defaults_in obligors_in
-enough = omega (arith, m.survived, m.defaulted, t.obligors, t.defaults, t.here.obligors, t.here.split)
+  enough : (s.0 + y ≤ 1_000_000) × (d + x ≤ 1_000_000)
+  unfolding survivors_in defaults_in obligors_in
+  enough = omega (arith, m.survived, m.defaulted, t.obligors, t.defaults, t.here.obligors, t.here.split)
 
-more : {s' : Survivors} → s'.0 ≡ s.0 + y → Summed (place_in place) (i - 1) s' (d + x) (set (set w (i - 1) s'.0) (41 + (i - 1)) (d + x))
-unfolding survivors_in defaults_in
-more {s'} sum =    let p = place_in place in
-    let survived : s'.0 ≡ survivors_in (suffix p (i - 1)) = rw t.down (omega (arith, m.survived, t.obligors, t.defaults)) in
-    let defaulted : d + x ≡ defaults_in (suffix p (i - 1)) = rw t.down (omega (arith, m.defaulted, t.defaults)) in
-    let new = stored w (i - 1) s'.0 (d + x) m.long (omega (arith, m.inside, t.few)) in
-    record {
-      inside = omega (arith, m.inside);
-      survived = survived;
-      defaulted = defaulted;
-      long = new.long;
-      survived_at = λ h l k. elim (dec_le i h) [
-        | yes le ↦ new.survived_else h (omega (arith, t.few)) (λ z. omega arith) ∙ m.survived_at h le k
-        | no gt ↦ let z : h ≡ i - 1 = omega arith in rw z (new.survived ∙ survived)
-      ];
-      defaulted_at = λ h l k. elim (dec_le i h) [
-        | yes le ↦ new.defaulted_else h (omega (arith, t.few)) (λ z. omega arith) ∙ m.defaulted_at h le k
-        | no gt ↦ let z : h ≡ i - 1 = omega arith in rw z (new.defaulted ∙ defaulted)
-      ];
-    }
+  more : {s' : Survivors} → s'.0 ≡ s.0 + y → Summed (place_in place) (i - 1) s' (d + x) (set (set w (i - 1) s'.0) (41 + (i - 1)) (d + x))
+  unfolding survivors_in defaults_in
+  more {s'} sum =    let p = place_in place in
+      let survived : s'.0 ≡ survivors_in (suffix p (i - 1)) = rw t.down (omega (arith, m.survived, t.obligors, t.defaults)) in
+      let defaulted : d + x ≡ defaults_in (suffix p (i - 1)) = rw t.down (omega (arith, m.defaulted, t.defaults)) in
+      let new = stored w (i - 1) s'.0 (d + x) m.long (omega (arith, m.inside, t.few)) in
+      record {
+        inside = omega (arith, m.inside);
+        survived = survived;
+        defaulted = defaulted;
+        long = new.long;
+        survived_at = λ h l k. elim (dec_le i h) [
+          | yes le ↦ new.survived_else h (omega (arith, t.few)) (λ z. omega arith) ∙ m.survived_at h le k
+          | no gt ↦ let z : h ≡ i - 1 = omega arith in rw z (new.survived ∙ survived)
+        ];
+        defaulted_at = λ h l k. elim (dec_le i h) [
+          | yes le ↦ new.defaulted_else h (omega (arith, t.few)) (λ z. omega arith) ∙ m.defaulted_at h le k
+          | no gt ↦ let z : h ≡ i - 1 = omega arith in rw z (new.defaulted ∙ defaulted)
+        ];
+      }
 
 -- Behind the last grade there is nobody.
 none : (p : Place) (i : ℕ) (w : List ℕ) → i ≡ p.grades → i ≤ 40 → length w ≡ 82 → Summed p i (record { 0 = 0 }) 0 (set (set w i 0) (41 + i) 0)
@@ -155,70 +156,59 @@ survivors-requires c =
 pub plus-survivors-requires : goal.plus-survivors-requires
 plus-survivors-requires c =
     let at : Turn c.args.place.now c.loop-i.i = turn _ _ c.requires.place c.loop-i-test.true c.loop-i.invariant.inside in
-    let begun : tie.In-loop invariant-loop decreases-loop = c in
-    let left : let l = begun.before in let w = l.before.before.before.args.place.now in c.survivors.result.0 ≡ get_or w (l.loop.i - 1) 0 - get_or w (40 + (l.loop.i - 1)) 0 = rw (← c.obligors_at.ensures) c.survivors.ensures in
-    let room : let l = begun.before in let w = l.before.before.before.args.place.now in (l.loop.survivors.0 + c.survivors.result.0 ≤ 1_000_000) × (l.loop.defaults + get_or w (40 + (l.loop.i - 1)) 0 ≤ 1_000_000) = enough begun.before.loop.invariant (at begun) begun.loop-test.true left in
+    let left : let w = c.args.place.now in c.survivors.result.0 ≡ get_or w (c.loop-i.i - 1) 0 - get_or w (40 + (c.loop-i.i - 1)) 0 = rw (← c.obligors_at.ensures) c.survivors.ensures in
+    let room : let w = c.args.place.now in (c.loop-i.survivors.0 + c.survivors.result.0 ≤ 1_000_000) × (c.loop-i.defaults + get_or w (40 + (c.loop-i.i - 1)) 0 ≤ 1_000_000) = enough c.loop-i.invariant at c.loop-i-test.true left in
     omega (arith, room)
 
 pub overflow_add-defaults : goal.overflow_add-defaults
 overflow_add-defaults c =
     let at : Turn c.args.place.now c.loop-i.i = turn _ _ c.requires.place c.loop-i-test.true c.loop-i.invariant.inside in
-    let begun : tie.In-loop invariant-loop decreases-loop = c in
-    let left : let l = begun.before in let w = l.before.before.before.args.place.now in c.survivors.result.0 ≡ get_or w (l.loop.i - 1) 0 - get_or w (40 + (l.loop.i - 1)) 0 = rw (← c.obligors_at.ensures) c.survivors.ensures in
-    let room : let l = begun.before in let w = l.before.before.before.args.place.now in (l.loop.survivors.0 + c.survivors.result.0 ≤ 1_000_000) × (l.loop.defaults + get_or w (40 + (l.loop.i - 1)) 0 ≤ 1_000_000) = enough begun.before.loop.invariant (at begun) begun.loop-test.true left in
+    let left : let w = c.args.place.now in c.survivors.result.0 ≡ get_or w (c.loop-i.i - 1) 0 - get_or w (40 + (c.loop-i.i - 1)) 0 = rw (← c.obligors_at.ensures) c.survivors.ensures in
+    let room : let w = c.args.place.now in (c.loop-i.survivors.0 + c.survivors.result.0 ≤ 1_000_000) × (c.loop-i.defaults + get_or w (40 + (c.loop-i.i - 1)) 0 ≤ 1_000_000) = enough c.loop-i.invariant at c.loop-i-test.true left in
     omega (arith, room)
 
 pub offset_bounds-sums-i-in-loop-i : goal.offset_bounds-sums-i-in-loop-i
 offset_bounds-sums-i-in-loop-i c =
     let at : Turn c.args.place.now c.loop-i.i = turn _ _ c.requires.place c.loop-i-test.true c.loop-i.invariant.inside in
-    let begun : tie.In-loop invariant-loop decreases-loop = c in
-    let t = at begun in omega arith
+    let t = at in omega arith
 
 pub bounds-sums-i-in-loop-i : goal.bounds-sums-i-in-loop-i
 bounds-sums-i-in-loop-i c =
     let at : Turn c.args.place.now c.loop-i.i = turn _ _ c.requires.place c.loop-i-test.true c.loop-i.invariant.inside in
-    let begun : tie.In-loop invariant-loop decreases-loop = c in
-    let t = at begun in omega arith
+    let t = at in omega arith
 
 pub overflow_cast-sums-in-loop-i : goal.overflow_cast-sums-in-loop-i
 overflow_cast-sums-in-loop-i c =
     let at : Turn c.args.place.now c.loop-i.i = turn _ _ c.requires.place c.loop-i-test.true c.loop-i.invariant.inside in
-    let begun : tie.In-loop invariant-loop decreases-loop = c in
-    let left : let l = begun.before in let w = l.before.before.before.args.place.now in c.survivors.result.0 ≡ get_or w (l.loop.i - 1) 0 - get_or w (40 + (l.loop.i - 1)) 0 = rw (← c.obligors_at.ensures) c.survivors.ensures in
-    let room : let l = begun.before in let w = l.before.before.before.args.place.now in (l.loop.survivors.0 + c.survivors.result.0 ≤ 1_000_000) × (l.loop.defaults + get_or w (40 + (l.loop.i - 1)) 0 ≤ 1_000_000) = enough begun.before.loop.invariant (at begun) begun.loop-test.true left in
+    let left : let w = c.args.place.now in c.survivors.result.0 ≡ get_or w (c.loop-i.i - 1) 0 - get_or w (40 + (c.loop-i.i - 1)) 0 = rw (← c.obligors_at.ensures) c.survivors.ensures in
+    let room : let w = c.args.place.now in (c.loop-i.survivors.0 + c.survivors.result.0 ≤ 1_000_000) × (c.loop-i.defaults + get_or w (40 + (c.loop-i.i - 1)) 0 ≤ 1_000_000) = enough c.loop-i.invariant at c.loop-i-test.true left in
     omega (arith, room)
 
 pub overflow_add-sums-in-loop-i : goal.overflow_add-sums-in-loop-i
 overflow_add-sums-in-loop-i c =
     let at : Turn c.args.place.now c.loop-i.i = turn _ _ c.requires.place c.loop-i-test.true c.loop-i.invariant.inside in
-    let begun : tie.In-loop invariant-loop decreases-loop = c in
-    let t = at begun in omega arith
+    let t = at in omega arith
 
 pub offset_bounds-sums-i-in-loop-i-2 : goal.offset_bounds-sums-i-in-loop-i-2
 offset_bounds-sums-i-in-loop-i-2 c =
     let at : Turn c.args.place.now c.loop-i.i = turn _ _ c.requires.place c.loop-i-test.true c.loop-i.invariant.inside in
-    let begun : tie.In-loop invariant-loop decreases-loop = c in
-    let t = at begun in omega arith
+    let t = at in omega arith
 
 pub bounds-sums-i-in-loop-i-2 : goal.bounds-sums-i-in-loop-i-2
 bounds-sums-i-in-loop-i-2 c =
     let at : Turn c.args.place.now c.loop-i.i = turn _ _ c.requires.place c.loop-i-test.true c.loop-i.invariant.inside in
-    let begun : tie.In-loop invariant-loop decreases-loop = c in
-    let t = at begun in omega arith
+    let t = at in omega arith
 
 pub loop-i-smaller : goal.loop-i-smaller
 loop-i-smaller c =
     let at : Turn c.args.place.now c.loop-i.i = turn _ _ c.requires.place c.loop-i-test.true c.loop-i.invariant.inside in
-    let begun : tie.In-loop invariant-loop decreases-loop = c in
-    let t = at begun in omega arith
+    let t = at in omega arith
 
 pub loop-i-preserved : goal.loop-i-preserved
 loop-i-preserved c =
     let at : Turn c.args.place.now c.loop-i.i = turn _ _ c.requires.place c.loop-i-test.true c.loop-i.invariant.inside in
-    let begun : tie.In-loop invariant-loop decreases-loop = c in
-    let left : let l = begun.before in let w = l.before.before.before.args.place.now in c.survivors.result.0 ≡ get_or w (l.loop.i - 1) 0 - get_or w (40 + (l.loop.i - 1)) 0 = rw (← c.obligors_at.ensures) c.survivors.ensures in
-    let t = begun in
-    more t.before.loop.invariant (at t) t.loop-test.taken left c.plus-survivors.ensures
+    let left : let w = c.args.place.now in c.survivors.result.0 ≡ get_or w (c.loop-i.i - 1) 0 - get_or w (40 + (c.loop-i.i - 1)) 0 = rw (← c.obligors_at.ensures) c.survivors.ensures in
+    more c.loop-i.invariant at c.loop-i-test.true left c.plus-survivors.ensures
 
 pub returns : goal.returns
 returns c = all c.loop-i.invariant (omega arith)

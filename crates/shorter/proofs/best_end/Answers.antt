@@ -11,13 +11,14 @@ use Rattle.shorter.proofs.best_end.Goals as goal
 tried_one : {f : ℕ → ℕ} {i last e value : ℕ} → e ≡ suc i → i < last → value ≡ f e → Tried f i last e e value
 tried_one {f} {i} e l h = record { after = omega arith; inside = omega arith; found = rw (e, top_one f (suc i)); worth = h }
 
-taken : value < here → Tried f i last (e + 1) (e + 1) here
-taken x =    let more : f (top_from f (suc i) e) < f (e + 1) = rw (← h, ← t.found, ← t.worth) x in
-    record { after = omega (arith, t.after); inside = omega arith; found = rw (top_taken f (suc i) e t.after more); worth = h }
+module _ {f : ℕ → ℕ} {i last e end value : ℕ} (t : Tried f i last e end value) (l : e < last) {here : ℕ} (h : here ≡ f (e + 1)) where
+  taken : value < here → Tried f i last (e + 1) (e + 1) here
+  taken x =    let more : f (top_from f (suc i) e) < f (e + 1) = rw (← h, ← t.found, ← t.worth) x in
+      record { after = omega (arith, t.after); inside = omega arith; found = rw (top_taken f (suc i) e t.after more); worth = h }
 
-left : here ≤ value → Tried f i last (e + 1) end value
-left x =    let less : f (e + 1) ≤ f (top_from f (suc i) e) = rw (← h, ← t.found, ← t.worth) x in
-    record { after = omega (arith, t.after); inside = omega arith; found = rw (top_left f (suc i) e t.after less) t.found; worth = t.worth }
+  left : here ≤ value → Tried f i last (e + 1) end value
+  left x =    let less : f (e + 1) ≤ f (top_from f (suc i) e) = rw (← h, ← t.found, ← t.worth) x in
+      record { after = omega (arith, t.after); inside = omega arith; found = rw (top_left f (suc i) e t.after less) t.found; worth = t.worth }
 
 pub overflow_add-e : goal.overflow_add-e
 overflow_add-e c = omega arith

@@ -10,7 +10,12 @@ use Rattle.shorter.proofs.fill_rows.Invariants.{Stands}
 use Rattle.shorter.proofs.fill_rows.Goals as goal
 
 pub last_runs-requires : goal.last_runs-requires
-last_runs-requires c = (c.requires.size, (c.requires.sums, c.requires.room.0))
+last_runs-requires c =
+    record {
+      size = c.requires.size;
+      sums = c.requires.sums;
+      room = c.requires.room.0;
+    }
 
 pub loop-j-init : goal.loop-j-init
 loop-j-init c =
@@ -26,8 +31,11 @@ overflow_add-j c = let f = c.loop-j.invariant in omega arith
 pub next_row-requires : goal.next_row-requires
 next_row-requires c =
     let w = c.loop-j.invariant in
-    let pre = c.requires in
-    ((omega arith, pre.0), (pre.1.0, (w.values, w.choices)))
+    let pre = c.requires in record {
+      size = (omega arith, pre.0);
+      sums = pre.1.0;
+      rows = (w.values, w.choices);
+    }
 
 pub overflow_add-j-in-loop-j : goal.overflow_add-j-in-loop-j
 overflow_add-j-in-loop-j c = omega arith

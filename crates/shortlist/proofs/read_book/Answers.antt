@@ -30,7 +30,10 @@ pub read_scales-requires : goal.read_scales-requires
 unfolding layout_fault
 read_scales-requires c =
     let laid : layout_fault c.args.book.now ≡ 0 = sym (go (sym c.head_fault-head.ensures ∙ c.if-head-ne0.false) (sym c.if-tables-ne0.false ∙ c.tables_fault-tables.ensures)) in
-    (laid, c.requires)
+    record {
+      laid = laid;
+      room = c.requires;
+    }
 
 pub returns : goal.returns
 unfolding book_fault layout_fault

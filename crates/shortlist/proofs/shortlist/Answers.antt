@@ -68,10 +68,10 @@ list_unbeaten-requires c =
     let comparable : Accepted book = accepted book whole no_totals in
     let scales : List ℕ = c.read_book-fault.new.held in
     let f = c.read_book-fault.ensures.1 in
-    let r = c.raters_of-raters.ensures.0 in (
-      rw r (book_searchable book scales whole (f.0 c.if-fault-ne0.false) f.1 comparable),
-      omega (arith, c.if-out-raters.false),
-    )
+    let r = c.raters_of-raters.ensures.0 in record {
+      scales = rw r (book_searchable book scales whole (f.0 c.if-fault-ne0.false) f.1 comparable);
+      room = omega (arith, c.if-out-raters.false);
+    }
 
 pub overflow_cast-result : goal.overflow_cast-result
 unfolding book_fault

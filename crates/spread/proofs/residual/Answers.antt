@@ -39,28 +39,29 @@ data Turn (w : List ℕ) (end : ℕ) (x : Block) (sum : Float) (at n : ℕ) : Ty
       → Adding w end (block 0 (n) (get_or w at 0)) (add binary64 sum q) (at + 3))
       → Turn w end x sum at n
 
-abbrev bs : List Block
-bs = spanning (table_in w)
+module _ (w : List ℕ) (h : HoldsPooledTable w) (end : ℕ) (x : Block) (sum : Float) (at n : ℕ) (rest : List Block) (k : ℕ) (from : 122 ≤ at) (index : at + 3 * suc k ≡ end) (a : Added (spanning (table_in w)) rest sum) where
+  abbrev bs : List Block
+  bs = spanning (table_in w)
 
-added_new : (c : Block) (cs : List Block) → rest ≡ c ∷ cs → Added bs (c ∷ cs) sum
-added_new c cs e = rw e at a
+  added_new : (c : Block) (cs : List Block) → rest ≡ c ∷ cs → Added bs (c ∷ cs) sum
+  added_new c cs e = rw e at a
 
-turned : (l : List ℕ) → Next l x rest k → get_or l 0 0 ≡ get_or w at 0 → get_or l 1 0 ≡ n → drop 3 l ≡ drop (at + 3) w → Turn w end x sum at n
-turned l (same s p) d m e =    again (rw (d, m) at s)
-    (record { rest = rest; left = k; from = omega arith; index = omega arith; passing = rw e at p; added = a })
-turned l (new c cs r cd cn s p) d o e =    let b = added_new c cs r in
-    let m = counts bs (scale w h) c cs sum b in
-    let dd = cd ∙ d in
-    let nn = cn ∙ o in
-    more (rw (d, o) at s) (omega (arith, m.0, nn), omega (arith, m.1, nn, dd), omega (arith, m.2, nn))
-    (λ q near. record {
-      rest = cs;
-      left = k;
-      from = omega arith;
-      index = omega arith;
-      passing = rw (d, o, e) at p;
-      added = step bs (scale w h) c cs sum b q (rw (dd, nn) near);
-    })
+  turned : (l : List ℕ) → Next l x rest k → get_or l 0 0 ≡ get_or w at 0 → get_or l 1 0 ≡ n → drop 3 l ≡ drop (at + 3) w → Turn w end x sum at n
+  turned l (same s p) d m e =    again (rw (d, m) at s)
+      (record { rest = rest; left = k; from = omega arith; index = omega arith; passing = rw e at p; added = a })
+  turned l (new c cs r cd cn s p) d o e =    let b = added_new c cs r in
+      let m = counts bs (scale w h) c cs sum b in
+      let dd = cd ∙ d in
+      let nn = cn ∙ o in
+      more (rw (d, o) at s) (omega (arith, m.0, nn), omega (arith, m.1, nn, dd), omega (arith, m.2, nn))
+      (λ q near. record {
+        rest = cs;
+        left = k;
+        from = omega arith;
+        index = omega arith;
+        passing = rw (d, o, e) at p;
+        added = step bs (scale w h) c cs sum b q (rw (dd, nn) near);
+      })
 
 turn : (w : List ℕ) → HoldsPooledTable w → (end : ℕ) (x : Block) (sum : Float) (at n : ℕ) → n ≡ get_or w (at + 1) 0 → at < end
     → (i : Adding w end x sum at) → (k : ℕ) → i.left ≡ k → Turn w end x sum at n
@@ -86,10 +87,6 @@ is_new : {w : List ℕ} {end : ℕ} {x : Block} {sum : Float} {at n : ℕ} → T
     → New w end sum at n
 is_new (again s i) b e h = let z : ◌≡◌ {A = ℕ} 0 1 = cc (s, e, not-true b h) in absurd (omega arith)
 is_new (more s m f) b e h = record { small = m; then = f }
-
-turn_at : (c : tie.In-loop invariant-loop decreases-loop) (n : ℕ) → n ≡ get_or (begun c.before).args.place.now (c.before.loop.at + 1) 0
-    → Turn (begun c.before).args.place.now (122 + 3 * c.before.before.place-grades.result) c.before.loop.x c.before.loop.sum c.before.loop.at n
-turn_at c n of = turn _ (begun c.before).pre _ _ _ _ n of c.loop-test.true c.before.loop.invariant _ refl
 
 pub place_grades-requires : goal.place_grades-requires
 place_grades-requires c = held-length c.requires
@@ -130,11 +127,10 @@ offset_bounds-place-at c =
 
 pub bounds-place-at : goal.bounds-place-at
 bounds-place-at c =
-    let begun : tie.Start invariant-loop decreases-loop = c in
     let count : c.place_grades.result ≡ length (table_in c.args.place.now) = grades-in c.args.place.now c.place_grades.ensures in
     let few : 122 + 3 * c.place_grades.result ≤ 242 = omega (arith, count, c.requires.sound.few) in
     let near : c.loop-at.at + 3 ≤ 242 = omega (arith, c.loop-at-test.true, c.loop-at.invariant.index, few) in
-    let reads : c.loop-at.at + 3 ≤ length begun.args.place.now = omega (arith, near, held-length begun.pre) in
+    let reads : c.loop-at.at + 3 ≤ length c.args.place.now = omega (arith, near, held-length c.requires) in
     omega (arith, reads)
 
 pub overflow_add-at : goal.overflow_add-at
@@ -146,11 +142,10 @@ overflow_add-at c =
 
 pub obligors_at-obligors-requires : goal.obligors_at-obligors-requires
 obligors_at-obligors-requires c =
-    let begun : tie.Start invariant-loop decreases-loop = c in
     let count : c.place_grades.result ≡ length (table_in c.args.place.now) = grades-in c.args.place.now c.place_grades.ensures in
     let few : 122 + 3 * c.place_grades.result ≤ 242 = omega (arith, count, c.requires.sound.few) in
     let near : c.loop-at.at + 3 ≤ 242 = omega (arith, c.loop-at-test.true, c.loop-at.invariant.index, few) in
-    let reads : c.loop-at.at + 3 ≤ length begun.args.place.now = omega (arith, near, held-length begun.pre) in
+    let reads : c.loop-at.at + 3 ≤ length c.args.place.now = omega (arith, near, held-length c.requires) in
     omega (arith, reads)
 
 pub overflow_add-at-in-loop-at : goal.overflow_add-at-in-loop-at
@@ -162,30 +157,35 @@ overflow_add-at-in-loop-at c =
 
 pub quotient-sum-requires : goal.quotient-sum-requires
 quotient-sum-requires c =
-    let begun : tie.Start invariant-loop decreases-loop = c in
-    let is-fresh : New begun.args.place.now (122 + 3 * c.place_grades.result) c.loop-at.sum c.loop-at.at c.obligors_at-obligors.result.0 = is_new (turn_at c _ c.obligors_at-obligors.ensures) _ c.shows.ensures c.if-not-shows.true in
-    let m = is-fresh.small in (m.1, (m.0, m.2))
+    let turn_at : (n : ℕ) → n ≡ get_or c.args.place.now (c.loop-at.at + 1) 0 → Turn c.args.place.now (122 + 3 * c.place_grades.result) c.loop-at.x c.loop-at.sum c.loop-at.at n = λ n of. turn _ c.requires _ _ _ _ n of c.loop-at-test.true c.loop-at.invariant _ refl in
+    let is-fresh : New c.args.place.now (122 + 3 * c.place_grades.result) c.loop-at.sum c.loop-at.at c.obligors_at-obligors.result.0 = is_new (turn_at _ c.obligors_at-obligors.ensures) _ c.shows.ensures c.if-not-shows.true in
+    let m = is-fresh.small in record {
+      defaults_le_obligors = m.1;
+      le_obligors = m.0;
+      obligors_bound = m.2;
+    }
 
 pub loop-at-smaller-then-not-shows : goal.loop-at-smaller-then-not-shows
 loop-at-smaller-then-not-shows c = omega (arith, c.loop-at-test.true)
 
 pub loop-at-preserved-then-not-shows : goal.loop-at-preserved-then-not-shows
 loop-at-preserved-then-not-shows c =
-    let begun : tie.Start invariant-loop decreases-loop = c in
-    let is-fresh : New begun.args.place.now (122 + 3 * c.place_grades.result) c.loop-at.sum c.loop-at.at c.obligors_at-obligors.result.0 = is_new (turn_at c _ c.obligors_at-obligors.ensures) _ c.shows.ensures c.if-not-shows.true in
+    let turn_at : (n : ℕ) → n ≡ get_or c.args.place.now (c.loop-at.at + 1) 0 → Turn c.args.place.now (122 + 3 * c.place_grades.result) c.loop-at.x c.loop-at.sum c.loop-at.at n = λ n of. turn _ c.requires _ _ _ _ n of c.loop-at-test.true c.loop-at.invariant _ refl in
+    let is-fresh : New c.args.place.now (122 + 3 * c.place_grades.result) c.loop-at.sum c.loop-at.at c.obligors_at-obligors.result.0 = is_new (turn_at _ c.obligors_at-obligors.ensures) _ c.shows.ensures c.if-not-shows.true in
     is-fresh.then c.quotient-sum.result c.quotient-sum.ensures
 
 pub loop-at-smaller : goal.loop-at-smaller
 loop-at-smaller c = omega (arith, c.loop-at-test.true)
 
 pub loop-at-preserved : goal.loop-at-preserved
-loop-at-preserved c = is_again (turn_at c _ c.obligors_at-obligors.ensures) _ c.shows.ensures c.if-not-shows.false
+loop-at-preserved c =
+    let turn_at : (n : ℕ) → n ≡ get_or c.args.place.now (c.loop-at.at + 1) 0 → Turn c.args.place.now (122 + 3 * c.place_grades.result) c.loop-at.x c.loop-at.sum c.loop-at.at n = λ n of. turn _ c.requires _ _ _ _ n of c.loop-at-test.true c.loop-at.invariant _ refl in
+    is_again (turn_at _ c.obligors_at-obligors.ensures) _ c.shows.ensures c.if-not-shows.false
 
 pub returns : goal.returns
 returns c =
-    let begun : tie.Start invariant-loop decreases-loop = c in
     let i = c.loop-at.invariant in
-    let w = begun.args.place.now in
+    let w = c.args.place.now in
     let none : i.left ≡ 0 = omega (arith, i.index, c.loop-at-test.false) in
     let over = passed _ _ _ (rw none at i.passing) in
-    finish (spanning (table_in w)) (scale w begun.requires) c.loop-at.sum (rw over at i.added)
+    finish (spanning (table_in w)) (scale w c.requires) c.loop-at.sum (rw over at i.added)

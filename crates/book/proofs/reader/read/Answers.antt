@@ -75,7 +75,10 @@ fill-requires c =
     let headed : fault (head_checks bytes) ≡ 0 = sym c.head_fault-head.ensures ∙ c.if-head-ne0.false in
     let laid : tables_fault_lem bytes ≡ 0 = sym c.tables_fault-tables.ensures ∙ c.if-tables-ne0.false in
     let standing : Stands bytes rater = stands _ _ headed (omega arith) (omega arith) laid in
-    let s = standing in (rw c.start_of.ensures (s.inside, s.few), search rules)
+    let s = standing in record {
+      inside = rw c.start_of.ensures (s.inside, s.few);
+      empty = search rules;
+    }
 
 pub returns : goal.returns
 unfolding read_fault rater_checks

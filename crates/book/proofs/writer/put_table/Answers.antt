@@ -7,8 +7,10 @@ use Rattle.book.proofs.writer.put_table.Goals as goal
 
 pub put_rows-requires : goal.put_rows-requires
 put_rows-requires c =
-    let e = length-lent c.args.place.now in
-    (c.requires.writable, omega arith)
+    let e = length-lent c.args.place.now in record {
+      writable = c.requires.writable;
+      room = omega arith;
+    }
 
 pub returns : goal.returns
 returns c =

@@ -16,25 +16,19 @@ comparable : {held : List ℕ} {n : ℕ} → Searchable held n → (q r : ℕ) �
     → (Sweepable u × Sweepable v) × ((defaults_in (scale_in u) ≡ defaults_in (scale_in v)) × (survivors_in (scale_in u) ≡ survivors_in (scale_in v)))
 comparable s q r l m e f = rw (e, f) ((s.sweepable q l, s.sweepable r m), (s.same_defaults q r l m, s.same_survivors q r l m))
 
--- What both searches say decides, y the second one.
-decided : (c : tie.After-never-dearer) {y : Bool}
-    → y ≡ never_dearer_lem (scale_in c.before.blocks-at2.result.now) (scale_in c.before.before.blocks_at.result.now)
-    → (a b : Bool) → c.never-dearer.result ≡ a → y ≡ b →
-    let args = c.before.before.before.before.args in
-    let first = scale_at args.held.now args.i in
-    let second = scale_at args.held.now args.j in
-    winner_of a b ≡ winner_of (never_dearer_lem first second) (never_dearer_lem second first)
-decided c q a b g h =    rw (← c.before.before.blocks_at.ensures, ← c.before.blocks-at2.ensures, ← c.never-dearer.ensures, ← q, g, h)
-
 pub blocks_at-first-requires : goal.blocks_at-first-requires
 blocks_at-first-requires c =
-    let s = c.requires.1 in
-    ((s.long, omega (arith, s.few)), s.inside c.args.i (omega arith))
+    let s = c.requires.1 in record {
+      inside = (s.long, omega (arith, s.few));
+      start = s.inside c.args.i (omega arith);
+    }
 
 pub blocks_at-second-requires : goal.blocks_at-second-requires
 blocks_at-second-requires c =
-    let s = c.requires.1 in
-    ((s.long, omega (arith, s.few)), s.inside c.args.j (omega arith))
+    let s = c.requires.1 in record {
+      inside = (s.long, omega (arith, s.few));
+      start = s.inside c.args.j (omega arith);
+    }
 
 pub never_dearer-requires : goal.never_dearer-requires
 never_dearer-requires c = comparable c.requires.1 c.args.i c.args.j (omega arith) (omega arith) c.blocks_at-first.ensures c.blocks_at-second.ensures
@@ -50,13 +44,21 @@ never_dearer-requires-else-never_dearer c =
     back
 
 pub returns-then-never_dearer-2 : goal.returns-then-never_dearer-2
-returns-then-never_dearer-2 c = decided c c.never_dearer-then-never_dearer.ensures true true c.if-never_dearer.true c.if-never_dearer-2.true
+returns-then-never_dearer-2 c =
+    let decided : {y : Bool} → y ≡ never_dearer_lem (scale_in c.blocks_at-second.result.now) (scale_in c.blocks_at-first.result.now) → (a b : Bool) → c.never_dearer.result ≡ a → y ≡ b → let args = c.args in let first = scale_at args.held.now args.i in let second = scale_at args.held.now args.j in winner_of a b ≡ winner_of (never_dearer_lem first second) (never_dearer_lem second first) = λ q a b g h. rw (← c.blocks_at-first.ensures, ← c.blocks_at-second.ensures, ← c.never_dearer.ensures, ← q, g, h) in
+    decided c.never_dearer-then-never_dearer.ensures true true c.if-never_dearer.true c.if-never_dearer-2.true
 
 pub returns-else-never_dearer-2 : goal.returns-else-never_dearer-2
-returns-else-never_dearer-2 c = decided c c.never_dearer-then-never_dearer.ensures true false c.if-never_dearer.true c.if-never_dearer-2.false
+returns-else-never_dearer-2 c =
+    let decided : {y : Bool} → y ≡ never_dearer_lem (scale_in c.blocks_at-second.result.now) (scale_in c.blocks_at-first.result.now) → (a b : Bool) → c.never_dearer.result ≡ a → y ≡ b → let args = c.args in let first = scale_at args.held.now args.i in let second = scale_at args.held.now args.j in winner_of a b ≡ winner_of (never_dearer_lem first second) (never_dearer_lem second first) = λ q a b g h. rw (← c.blocks_at-first.ensures, ← c.blocks_at-second.ensures, ← c.never_dearer.ensures, ← q, g, h) in
+    decided c.never_dearer-then-never_dearer.ensures true false c.if-never_dearer.true c.if-never_dearer-2.false
 
 pub returns-then-never_dearer-3 : goal.returns-then-never_dearer-3
-returns-then-never_dearer-3 c = decided c c.never_dearer-else-never_dearer.ensures false true c.if-never_dearer.false c.if-never_dearer-3.true
+returns-then-never_dearer-3 c =
+    let decided : {y : Bool} → y ≡ never_dearer_lem (scale_in c.blocks_at-second.result.now) (scale_in c.blocks_at-first.result.now) → (a b : Bool) → c.never_dearer.result ≡ a → y ≡ b → let args = c.args in let first = scale_at args.held.now args.i in let second = scale_at args.held.now args.j in winner_of a b ≡ winner_of (never_dearer_lem first second) (never_dearer_lem second first) = λ q a b g h. rw (← c.blocks_at-first.ensures, ← c.blocks_at-second.ensures, ← c.never_dearer.ensures, ← q, g, h) in
+    decided c.never_dearer-else-never_dearer.ensures false true c.if-never_dearer.false c.if-never_dearer-3.true
 
 pub returns-else-never_dearer-3 : goal.returns-else-never_dearer-3
-returns-else-never_dearer-3 c = decided c c.never_dearer-else-never_dearer.ensures false false c.if-never_dearer.false c.if-never_dearer-3.false
+returns-else-never_dearer-3 c =
+    let decided : {y : Bool} → y ≡ never_dearer_lem (scale_in c.blocks_at-second.result.now) (scale_in c.blocks_at-first.result.now) → (a b : Bool) → c.never_dearer.result ≡ a → y ≡ b → let args = c.args in let first = scale_at args.held.now args.i in let second = scale_at args.held.now args.j in winner_of a b ≡ winner_of (never_dearer_lem first second) (never_dearer_lem second first) = λ q a b g h. rw (← c.blocks_at-first.ensures, ← c.blocks_at-second.ensures, ← c.never_dearer.ensures, ← q, g, h) in
+    decided c.never_dearer-else-never_dearer.ensures false false c.if-never_dearer.false c.if-never_dearer-3.false

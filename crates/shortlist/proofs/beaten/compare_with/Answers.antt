@@ -10,19 +10,6 @@ use Rattle.shortlist.specs.declared.beaten.Winner.TheVariants.{First, Second, Ne
 use Rattle.shortlist.proofs.Compared.{first_beats, second_beats, won_by, skipped, won}
 use Rattle.shortlist.proofs.beaten.compare_with.Goals as goal
 
--- Once i and j are compared the winner says how it goes on.
-turn : (c : tie.After-better-of invariant-loop decreases-loop) (w : Winner) → c.better-of.result ≡ w →
-    let a = c.before.before.before.before.before.before.args in
-    let l = c.before.before.before.before.loop in
-    won_by (beats a.held.now) a.j l.i l.marks w ≡ compared (beats a.held.now) a.j a.j 0 a.marks.now
-turn c w e =    let a = c.before.before.before.before.before.before.args in
-    let l = c.before.before.before.before.loop in
-    let held = a.held.now in
-    let says = rw e at c.better-of.ensures in
-    won (beats held) a.j l.i l.marks c.before.before.before.loop-test.true c.before.if1.false w
-    (first_beats held l.i a.j says) (second_beats held l.i a.j says)
-    ∙ l.invariant.2
-
 pub loop-i-init : goal.loop-i-init
 loop-i-init c =
     let e : c.args.j - 0 ≡ c.args.j = omega arith in
@@ -40,20 +27,41 @@ better_of-winner-requires c = (c.loop-i-test.true, c.requires.1)
 
 pub returns-in-First : goal.returns-in-First
 returns-in-First c =
+    let turn : (w : Winner) → c.better_of-winner.result ≡ w → let a = c.args in let l = c.loop-i in won_by (beats a.held.now) a.j l.i l.marks w ≡ compared (beats a.held.now) a.j a.j 0 a.marks.now = λ w e. let a = c.args in
+    let l = c.loop-i in
+    let held = a.held.now in
+    let says = rw e at c.better_of-winner.ensures in
+    won (beats held) a.j l.i l.marks c.loop-i-test.true c.if-marks-at-ne0.false w
+    (first_beats held l.i a.j says) (second_beats held l.i a.j says)
+    ∙ l.invariant.2 in
     record {
-      marks_after = turn c First c.enum_told-1.given.1;
+      marks_after = turn First c.enum_told-1.given.1;
       length = rw length-set c.loop-i.invariant.1;
     }
 
 pub loop-i-preserved-in-Second : goal.loop-i-preserved-in-Second
 loop-i-preserved-in-Second c =
+    let turn : (w : Winner) → c.better_of-winner.result ≡ w → let a = c.args in let l = c.loop-i in won_by (beats a.held.now) a.j l.i l.marks w ≡ compared (beats a.held.now) a.j a.j 0 a.marks.now = λ w e. let a = c.args in
     let l = c.loop-i in
-    (omega (arith, c.loop-i-test.true), rw length-set l.invariant.1, turn c Second c.enum_told-in-Second-1.given.1)
+    let held = a.held.now in
+    let says = rw e at c.better_of-winner.ensures in
+    won (beats held) a.j l.i l.marks c.loop-i-test.true c.if-marks-at-ne0.false w
+    (first_beats held l.i a.j says) (second_beats held l.i a.j says)
+    ∙ l.invariant.2 in
+    let l = c.loop-i in
+    (omega (arith, c.loop-i-test.true), rw length-set l.invariant.1, turn Second c.enum_told-in-Second-1.given.1)
 
 pub loop-i-preserved : goal.loop-i-preserved
 loop-i-preserved c =
+    let turn : (w : Winner) → c.better_of-winner.result ≡ w → let a = c.args in let l = c.loop-i in won_by (beats a.held.now) a.j l.i l.marks w ≡ compared (beats a.held.now) a.j a.j 0 a.marks.now = λ w e. let a = c.args in
     let l = c.loop-i in
-    (omega (arith, c.loop-i-test.true), l.invariant.1, turn c Neither c.enum_told-in-Neither-1.given.1)
+    let held = a.held.now in
+    let says = rw e at c.better_of-winner.ensures in
+    won (beats held) a.j l.i l.marks c.loop-i-test.true c.if-marks-at-ne0.false w
+    (first_beats held l.i a.j says) (second_beats held l.i a.j says)
+    ∙ l.invariant.2 in
+    let l = c.loop-i in
+    (omega (arith, c.loop-i-test.true), l.invariant.1, turn Neither c.enum_told-in-Neither-1.given.1)
 
 pub returns : goal.returns
 unfolding compared

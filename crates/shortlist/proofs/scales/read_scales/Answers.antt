@@ -23,42 +23,37 @@ loop-rater-init c =
 
 pub overflow_mul-from : goal.overflow_mul-from
 overflow_mul-from c =
-    let at : tie.At-loop invariant-loop decreases-loop = c in
-    let book : List ℕ = at.before.before.before.before.args.book.now in
-    let more : at.loop.rater < raters book = omega (arith, at.loop.inv.0, c.loop-rater-test.true) in
-    let few : at.loop.rater < 16 = omega (arith, more, at.loop.inv.1.laid.few) in
+    let book : List ℕ = c.args.book.now in
+    let more : c.loop-rater.rater < raters book = omega (arith, c.loop-rater.invariant.0, c.loop-rater-test.true) in
+    let few : c.loop-rater.rater < 16 = omega (arith, more, c.loop-rater.invariant.1.laid.few) in
     let k = few in omega arith
 
 pub overflow_add-to : goal.overflow_add-to
 overflow_add-to c =
-    let at : tie.At-loop invariant-loop decreases-loop = c in
-    let book : List ℕ = at.before.before.before.before.args.book.now in
-    let more : at.loop.rater < raters book = omega (arith, at.loop.inv.0, c.loop-rater-test.true) in
-    let few : at.loop.rater < 16 = omega (arith, more, at.loop.inv.1.laid.few) in
+    let book : List ℕ = c.args.book.now in
+    let more : c.loop-rater.rater < raters book = omega (arith, c.loop-rater.invariant.0, c.loop-rater-test.true) in
+    let few : c.loop-rater.rater < 16 = omega (arith, more, c.loop-rater.invariant.1.laid.few) in
     let k = few in omega arith
 
 pub overflow_add-rater : goal.overflow_add-rater
 overflow_add-rater c =
-    let at : tie.At-loop invariant-loop decreases-loop = c in
-    let book : List ℕ = at.before.before.before.before.args.book.now in
-    let more : at.loop.rater < raters book = omega (arith, at.loop.inv.0, c.loop-rater-test.true) in
-    let few : at.loop.rater < 16 = omega (arith, more, at.loop.inv.1.laid.few) in
+    let book : List ℕ = c.args.book.now in
+    let more : c.loop-rater.rater < raters book = omega (arith, c.loop-rater.invariant.0, c.loop-rater-test.true) in
+    let few : c.loop-rater.rater < 16 = omega (arith, more, c.loop-rater.invariant.1.laid.few) in
     let k = few in omega arith
 
 pub start_of-requires : goal.start_of-requires
 start_of-requires c =
-    let at : tie.At-loop invariant-loop decreases-loop = c in
-    let book : List ℕ = at.before.before.before.before.args.book.now in
-    let more : at.loop.rater < raters book = omega (arith, at.loop.inv.0, c.loop-rater-test.true) in
-    let stands : Stands book (suc at.loop.rater) = at.loop.inv.1.laid.standing (suc at.loop.rater) (omega arith) more in
+    let book : List ℕ = c.args.book.now in
+    let more : c.loop-rater.rater < raters book = omega (arith, c.loop-rater.invariant.0, c.loop-rater-test.true) in
+    let stands : Stands book (suc c.loop-rater.rater) = c.loop-rater.invariant.1.laid.standing (suc c.loop-rater.rater) (omega arith) more in
     let s = stands in (omega arith, omega (arith, s.head))
 
 pub offset_bounds-held-from : goal.offset_bounds-held-from
 offset_bounds-held-from c =
-    let at : tie.At-loop invariant-loop decreases-loop = c in
-    let book : List ℕ = at.before.before.before.before.args.book.now in
-    let more : at.loop.rater < raters book = omega (arith, at.loop.inv.0, c.loop-rater-test.true) in
-    let few : at.loop.rater < 16 = omega (arith, more, at.loop.inv.1.laid.few) in
+    let book : List ℕ = c.args.book.now in
+    let more : c.loop-rater.rater < raters book = omega (arith, c.loop-rater.invariant.0, c.loop-rater-test.true) in
+    let few : c.loop-rater.rater < 16 = omega (arith, more, c.loop-rater.invariant.1.laid.few) in
     let k = few in omega arith
 
 pub slice_bounds-read_scale-count : goal.slice_bounds-read_scale-count
@@ -69,55 +64,51 @@ slice_bounds-read_scale-start c = omega arith
 
 pub slice_bounds-read_scale-end : goal.slice_bounds-read_scale-end
 slice_bounds-read_scale-end c =
-    let at : tie.At-loop invariant-loop decreases-loop = c in
-    let book : List ℕ = at.before.before.before.before.args.book.now in
-    let more : at.loop.rater < raters book = omega (arith, at.loop.inv.0, c.loop-rater-test.true) in
-    let few : at.loop.rater < 16 = omega (arith, more, at.loop.inv.1.laid.few) in
+    let book : List ℕ = c.args.book.now in
+    let more : c.loop-rater.rater < raters book = omega (arith, c.loop-rater.invariant.0, c.loop-rater-test.true) in
+    let few : c.loop-rater.rater < 16 = omega (arith, more, c.loop-rater.invariant.1.laid.few) in
     let k = few in omega (arith, c.loop-rater.invariant.1.long)
 
 pub read_scale-fault-requires : goal.read_scale-fault-requires
 read_scale-fault-requires c =
-    let at : tie.At-loop invariant-loop decreases-loop = c in
-    let book : List ℕ = at.before.before.before.before.args.book.now in
-    let more : at.loop.rater < raters book = omega (arith, at.loop.inv.0, c.loop-rater-test.true) in
-    let few : at.loop.rater < 16 = omega (arith, more, at.loop.inv.1.laid.few) in
-    let stands : Stands book (suc at.loop.rater) = at.loop.inv.1.laid.standing (suc at.loop.rater) (omega arith) more in
-    let starts : c.start_of.result ≡ start_of book (suc at.loop.rater) = c.start_of.ensures ∙ ap (λ (j : ℕ). start_of book j) (add-one at.loop.rater) in
+    let book : List ℕ = c.args.book.now in
+    let more : c.loop-rater.rater < raters book = omega (arith, c.loop-rater.invariant.0, c.loop-rater-test.true) in
+    let few : c.loop-rater.rater < 16 = omega (arith, more, c.loop-rater.invariant.1.laid.few) in
+    let stands : Stands book (suc c.loop-rater.rater) = c.loop-rater.invariant.1.laid.standing (suc c.loop-rater.rater) (omega arith) more in
+    let starts : c.start_of.result ≡ start_of book (suc c.loop-rater.rater) = c.start_of.ensures ∙ ap (λ (j : ℕ). start_of book j) (add-one c.loop-rater.rater) in
     let s = stands in
-    let r = at.loop.rater in
-    let k : 123 * r + 123 - 123 * r ≡ 123 = omega arith in
-    (rw starts (s.inside, s.some, s.few), rw (k, length-take, length-drop) (omega (arith, few, at.loop.invariant.1.long)))
+    let r = c.loop-rater.rater in
+    let k : 123 * r + 123 - 123 * r ≡ 123 = omega arith in record {
+      table = rw starts (s.inside, s.some, s.few);
+      room = rw (k, length-take, length-drop) (omega (arith, few, c.loop-rater.invariant.1.long));
+    }
 
 pub shape_of-held-then-fault-ne0 : goal.shape_of-held-then-fault-ne0
 shape_of-held-then-fault-ne0 c =
-    let at : tie.At-loop invariant-loop decreases-loop = c in
-    let turn : tie.In-loop invariant-loop decreases-loop = c in
-    let book : List ℕ = at.before.before.before.before.args.book.now in
-    let more : at.loop.rater < raters book = omega (arith, at.loop.inv.0, c.loop-rater-test.true) in
-    let few : at.loop.rater < 16 = omega (arith, more, at.loop.inv.1.laid.few) in
-    let kept : length (put_mid (123 * (at turn).loop.rater) (123 * (at turn).loop.rater + 123 - 123 * (at turn).loop.rater) (at turn).loop.held c.read_scale-fault.new.start.1.0) ≡ 1968 = let r = (at turn).loop.rater in
+    let book : List ℕ = c.args.book.now in
+    let more : c.loop-rater.rater < raters book = omega (arith, c.loop-rater.invariant.0, c.loop-rater-test.true) in
+    let few : c.loop-rater.rater < 16 = omega (arith, more, c.loop-rater.invariant.1.laid.few) in
+    let kept : length (put_mid (123 * c.loop-rater.rater) (123 * c.loop-rater.rater + 123 - 123 * c.loop-rater.rater) c.loop-rater.held c.read_scale-fault.new.start.1.0) ≡ 1968 = let r = c.loop-rater.rater in
     let k : 123 * r + 123 - 123 * r ≡ 123 = omega arith in
-    let long = (at turn).loop.inv.1.long in
+    let long = c.loop-rater.invariant.1.long in
     let new = c.read_scale-fault.ensures.length in
-    rw k (same_len_mid (123 * r) 123 (at turn).loop.held c.read_scale-fault.new.start.1.0 (rw (length-take, length-drop) (omega (arith, few turn))) ∙ long) in
-    kept ∙ sym (at turn).before.before.before.before.pre.1
+    rw k (same_len_mid (123 * r) 123 c.loop-rater.held c.read_scale-fault.new.start.1.0 (rw (length-take, length-drop) (omega (arith, few))) ∙ long) in
+    kept ∙ sym c.requires.room
 
 pub returns-then-fault-ne0 : goal.returns-then-fault-ne0
 returns-then-fault-ne0 c =
-    let at : tie.At-loop invariant-loop decreases-loop = c in
-    let book : List ℕ = at.before.before.before.before.args.book.now in
-    let more : at.loop.rater < raters book = omega (arith, at.loop.inv.0, c.loop-rater-test.true) in
-    let turn : tie.In-loop invariant-loop decreases-loop = c in
-    let starts : c.start_of.result ≡ start_of book (suc at.loop.rater) = c.start_of.ensures ∙ ap (λ (j : ℕ). start_of book j) (add-one at.loop.rater) in
-    let fault_is : c.read_scale-fault.result ≡ table_fault_lem (table_of_rater (book turn) (suc (at turn).loop.rater)) = c.read_scale-fault.ensures.value ∙ ap (λ (s : ℕ). table_fault_lem (table_from (book turn) s)) starts in
-    let few : at.loop.rater < 16 = omega (arith, more, at.loop.inv.1.laid.few) in
-    let kept : length (put_mid (123 * (at turn).loop.rater) (123 * (at turn).loop.rater + 123 - 123 * (at turn).loop.rater) (at turn).loop.held c.read_scale-fault.new.start.1.0) ≡ 1968 = let r = (at turn).loop.rater in
+    let book : List ℕ = c.args.book.now in
+    let more : c.loop-rater.rater < raters book = omega (arith, c.loop-rater.invariant.0, c.loop-rater-test.true) in
+    let starts : c.start_of.result ≡ start_of book (suc c.loop-rater.rater) = c.start_of.ensures ∙ ap (λ (j : ℕ). start_of book j) (add-one c.loop-rater.rater) in
+    let fault_is : c.read_scale-fault.result ≡ table_fault_lem (table_of_rater book (suc c.loop-rater.rater)) = c.read_scale-fault.ensures.value ∙ ap (λ (s : ℕ). table_fault_lem (table_from book s)) starts in
+    let few : c.loop-rater.rater < 16 = omega (arith, more, c.loop-rater.invariant.1.laid.few) in
+    let kept : length (put_mid (123 * c.loop-rater.rater) (123 * c.loop-rater.rater + 123 - 123 * c.loop-rater.rater) c.loop-rater.held c.read_scale-fault.new.start.1.0) ≡ 1968 = let r = c.loop-rater.rater in
     let k : 123 * r + 123 - 123 * r ≡ 123 = omega arith in
-    let long = (at turn).loop.inv.1.long in
+    let long = c.loop-rater.invariant.1.long in
     let new = c.read_scale-fault.ensures.length in
-    rw k (same_len_mid (123 * r) 123 (at turn).loop.held c.read_scale-fault.new.start.1.0 (rw (length-take, length-drop) (omega (arith, few turn))) ∙ long) in
-    let t = turn in record {
-      value = ends _ _ _ (at t).loop.inv.1 (more t) _ fault_is c.if-fault-ne0.true;
+    rw k (same_len_mid (123 * r) 123 c.loop-rater.held c.read_scale-fault.new.start.1.0 (rw (length-take, length-drop) (omega (arith, few))) ∙ long) in
+    record {
+      value = ends _ _ _ c.loop-rater.invariant.1 more _ fault_is c.if-fault-ne0.true;
       scales = λ z. absurd (c.if-fault-ne0.true z);
       length = kept;
     }
@@ -127,23 +118,20 @@ loop-rater-smaller c = omega arith
 
 pub loop-rater-preserved : goal.loop-rater-preserved
 loop-rater-preserved c =
-    let at : tie.At-loop invariant-loop decreases-loop = c in
-    let book : List ℕ = at.before.before.before.before.args.book.now in
-    let more : at.loop.rater < raters book = omega (arith, at.loop.inv.0, c.loop-rater-test.true) in
-    let starts : c.start_of.result ≡ start_of book (suc at.loop.rater) = c.start_of.ensures ∙ ap (λ (j : ℕ). start_of book j) (add-one at.loop.rater) in
-    let turn : tie.In-loop invariant-loop decreases-loop = c in
-    let fault_is : c.read_scale-fault.result ≡ table_fault_lem (table_of_rater (book turn) (suc (at turn).loop.rater)) = c.read_scale-fault.ensures.value ∙ ap (λ (s : ℕ). table_fault_lem (table_from (book turn) s)) starts in
-    let few : at.loop.rater < 16 = omega (arith, more, at.loop.inv.1.laid.few) in
-    let kept : length (put_mid (123 * (at turn).loop.rater) (123 * (at turn).loop.rater + 123 - 123 * (at turn).loop.rater) (at turn).loop.held c.read_scale-fault.new.start.1.0) ≡ 1968 = let r = (at turn).loop.rater in
+    let book : List ℕ = c.args.book.now in
+    let more : c.loop-rater.rater < raters book = omega (arith, c.loop-rater.invariant.0, c.loop-rater-test.true) in
+    let starts : c.start_of.result ≡ start_of book (suc c.loop-rater.rater) = c.start_of.ensures ∙ ap (λ (j : ℕ). start_of book j) (add-one c.loop-rater.rater) in
+    let fault_is : c.read_scale-fault.result ≡ table_fault_lem (table_of_rater book (suc c.loop-rater.rater)) = c.read_scale-fault.ensures.value ∙ ap (λ (s : ℕ). table_fault_lem (table_from book s)) starts in
+    let few : c.loop-rater.rater < 16 = omega (arith, more, c.loop-rater.invariant.1.laid.few) in
+    let kept : length (put_mid (123 * c.loop-rater.rater) (123 * c.loop-rater.rater + 123 - 123 * c.loop-rater.rater) c.loop-rater.held c.read_scale-fault.new.start.1.0) ≡ 1968 = let r = c.loop-rater.rater in
     let k : 123 * r + 123 - 123 * r ≡ 123 = omega arith in
-    let long = (at turn).loop.inv.1.long in
+    let long = c.loop-rater.invariant.1.long in
     let new = c.read_scale-fault.ensures.length in
-    rw k (same_len_mid (123 * r) 123 (at turn).loop.held c.read_scale-fault.new.start.1.0 (rw (length-take, length-drop) (omega (arith, few turn))) ∙ long) in
-    let t = turn in
+    rw k (same_len_mid (123 * r) 123 c.loop-rater.held c.read_scale-fault.new.start.1.0 (rw (length-take, length-drop) (omega (arith, few))) ∙ long) in
     let z = c.if-fault-ne0.false in (
-      (at t).loop.inv.0,
-      rw (add-one (at t).loop.rater)
-          (goes _ _ _ (at t).loop.inv.1 (more t) c.read_scale-fault.new.start.1.0 _ (sym fault_is ∙ z) (rw starts at (c.read_scale-fault.ensures.scale z)) kept),
+      c.loop-rater.invariant.0,
+      rw (add-one c.loop-rater.rater)
+          (goes _ _ _ c.loop-rater.invariant.1 more c.read_scale-fault.new.start.1.0 _ (sym fault_is ∙ z) (rw starts at (c.read_scale-fault.ensures.scale z)) kept),
     )
 
 pub shape_of-held : goal.shape_of-held

@@ -1,0 +1,24 @@
+-- `write_ends` meets its contract. The invariant: the ends before `at` are written.
+use Prim.Native.Nat.{ℕ, suc, ◌+◌, ◌-◌, ◌*◌, ◌≤◌, ◌<◌}
+use mathlib.Core.Path.{◌≡◌, refl, ◌∙◌}
+use mathlib.Core.List.{List, ◌++◌, append_assoc}
+use native.Mathlib.Numerals.{add-one}
+use native.Mathlib.Omega.{arith}
+use lib.ListN.{length, get_or, take, drop, set, length-set, take-append-drop}
+use lib.Seq.{take-suc-set, drop-set-lt}
+use Rattle.shorter.specs.Private.{ends_in, Leads}
+use Rattle.shorter.proofs.write_ends.Given as goal
+
+-- The ends before `at` are written, and the choices lead on from grade i.
+pub record Written (c : List ℕ) (m k : ℕ) (out₀ : List ℕ) (i at : ℕ) (out : List ℕ) : Type 0 where
+  pub some : at < m
+  pub leads : Leads c (m - 1 - at) i
+  pub long : length out ≡ length out₀
+  pub ends : take at out ++ ends_in c k (m - 1 - at) i ≡ ends_in c k (m - 1) 0
+  pub rest : drop m out ≡ drop m out₀
+
+abbrev pub invariant-loop-at : goal.invariant-loop-at
+invariant-loop-at l = Written l.choices l.size.runs l.size.grades l.initial.out l.i l.at l.out
+
+abbrev pub decreases-loop-at : goal.decreases-loop-at
+decreases-loop-at l = l.size.runs - l.at
