@@ -57,6 +57,7 @@ rows_back (g ∷ t) w c r h =
     rw (
       append_assoc (encode_grade g) (encode_grades t) w,
       grade_back g (encode_grades t ++ w) (omega arith) (omega arith) (omega arith),
+      append_assoc (encode_grade g) (encode_grades t) w,
       rows_shift (encode_grade g) (encode_grades t ++ w) 0 (length t) 12 0 (omega (arith, length_grade g)),
       rows_back t w c.1 r.1 (omega arith),
     )

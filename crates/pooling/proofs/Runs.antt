@@ -37,7 +37,7 @@ module _ (P : Table → Type 0) (joined : (t u : Table) → P t → P u → AtMo
   cut_front {r} {t} f (more {r = s} {t = u} {u = v} {bs = bs} g k) =
       front_cases (Cut P (r ∷ t ++ (s ∷ u ++ v))) (block_of (r ∷ t)) (block_of (s ∷ u)) bs
       (λ _. more f (more g k))
-      (λ l. rw (append_assoc (r ∷ t) (s ∷ u) v, block_append (r ∷ t) (s ∷ u)) at (cut_front (joined (r ∷ t) (s ∷ u) f g l) k))
+      (λ l. rw (append_assoc (r ∷ t) (s ∷ u) v, block_append (r ∷ t) (s ∷ u)) at (cut_front {t = t ++ s ∷ u} (joined (r ∷ t) (s ∷ u) f g l) k))
 
   pub pool_cut : (t : Table) → Every (λ r. P (r ∷ [])) t → Cut P t (pool t)
   unfolding pool
