@@ -12,7 +12,7 @@ pub none-lead-requires : goal.none-lead-requires
 none-lead-requires c = tt
 
 pub loop-i-init : goal.loop-i-init
-loop-i-init c = let pre = c.requires in none_swept pre.0.0 pre.0.1 c.none-lead.ensures
+loop-i-init c = let pre = c.requires in none_swept pre.scales.0 pre.scales.1 c.none-lead.ensures
 
 pub overflow_sub-i : goal.overflow_sub-i
 overflow_sub-i c =
@@ -42,7 +42,7 @@ turning_away-lead-requires c =
     let pre = c.requires in
     let lead = is_lead known c.loop-i.invariant some here in
     let fewer = fewer_at known c.loop-i.invariant some here in record {
-      scale = (pre.0.1, (pre.1.0.1, lead));
+      scale = (pre.scales.1, (pre.light.1, lead));
       fewer = fewer;
       small = small₂ known c.loop-i.invariant some here;
     }

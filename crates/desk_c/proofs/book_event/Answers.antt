@@ -36,7 +36,7 @@ returns c =
     let k = event c.args.kind c.args.grade in
     let e = c.event_at.ensures in
     let same = place_same c.requires c.args.place at start here k in
-    let new = e.1 ∙ ap (λ (p : Place). leaves c.event_at.result w (with_words w at (changed_to (table_of p) k))) same in record {
-      value = image_number c.requires c.args.place at start here k e.0;
-      desk_after = image_changed c.requires c.args.place at start here k e.0 new;
+    let new = e.desk_after ∙ ap (λ (p : Place). leaves c.event_at.result w (with_words w at (changed_to (table_of p) k))) same in record {
+      value = image_number c.requires c.args.place at start here k e.value;
+      desk_after = image_changed c.requires c.args.place at start here k e.value new;
     }

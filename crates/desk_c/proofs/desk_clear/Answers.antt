@@ -28,6 +28,6 @@ returns c =
     let start = c.start_of.ensures.0 in
     let here = there c.args.place _ c.is_place.ensures c.if-not-is_place.false in
     let e = c.clear_at.ensures in record {
-      value = image_number c.requires c.args.place _ start here clear e.0;
-      desk_after = image_changed c.requires c.args.place _ start here clear e.0 e.1;
+      value = image_number c.requires c.args.place _ start here clear e.value;
+      desk_after = image_changed c.requires c.args.place _ start here clear e.value e.desk_after;
     }

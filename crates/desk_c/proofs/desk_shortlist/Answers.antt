@@ -8,19 +8,19 @@ use Rattle.desk_c.proofs.desk_shortlist.Goals as goal
 pub returns-in-Count : goal.returns-in-Count
 returns-in-Count c =
     let s = c.shortlist-answered.ensures in
-    let e = accepted_is _ _ (ap shortlisted_says (sym c.answered-1.given.1) ∙ s.1.1) in record {
+    let e = accepted_is _ _ (ap shortlisted_says (sym c.answered-1.given.1) ∙ s.returns) in record {
       desk = refl;
       value = e.0;
-      numbers_after = s.1.0;
+      numbers_after = s.out_after;
       count_after = e.1;
     }
 
 pub returns-in-Refused : goal.returns-in-Refused
 returns-in-Refused c =
     let s = c.shortlist-answered.ensures in
-    let e = kept _ _ _ _ _ (ap shortlisted_says (sym c.answered-in-Refused-1.given.1) ∙ s.1.1) in record {
+    let e = kept _ _ _ _ _ (ap shortlisted_says (sym c.answered-in-Refused-1.given.1) ∙ s.returns) in record {
       desk = refl;
       value = e.0;
-      numbers_after = s.1.0;
+      numbers_after = s.out_after;
       count_after = e.1;
     }

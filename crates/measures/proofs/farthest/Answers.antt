@@ -74,7 +74,7 @@ pub overflow_add-curve : goal.overflow_add-curve
 overflow_add-curve c =
     let at : Turn c.args.place.now c.loop-i.i = turn _ _ c.requires.holds_table c.loop-i-test.true c.loop-i.invariant.inside in
     let curve-is : let p = place_in c.args.place.now in c.loop-i.curve + c.pairs_of-curve.result ≡ defaults_in (suffix p (c.loop-i.i - 1)) * survivors_in (table_of p) = let pre = c.requires in
-    more_curve pre.0.sound at c.loop-i.invariant pre.1.1 c.pairs_of-curve.ensures in
+    more_curve pre.holds_table.sound at c.loop-i.invariant pre.all_survivors c.pairs_of-curve.ensures in
     omega (arith, few_curve c.requires.holds_table.sound at c.loop-i.invariant curve-is)
 
 pub obligors_at-requires : goal.obligors_at-requires
@@ -91,10 +91,10 @@ pub overflow_add-diagonal : goal.overflow_add-diagonal
 overflow_add-diagonal c =
     let at : Turn c.args.place.now c.loop-i.i = turn _ _ c.requires.holds_table c.loop-i-test.true c.loop-i.invariant.inside in
     let curve-is : let p = place_in c.args.place.now in c.loop-i.curve + c.pairs_of-curve.result ≡ defaults_in (suffix p (c.loop-i.i - 1)) * survivors_in (table_of p) = let pre = c.requires in
-    more_curve pre.0.sound at c.loop-i.invariant pre.1.1 c.pairs_of-curve.ensures in
+    more_curve pre.holds_table.sound at c.loop-i.invariant pre.all_survivors c.pairs_of-curve.ensures in
     let diagonal-is : let p = place_in c.args.place.now in c.loop-i.diagonal + c.pairs_of-diagonal.result ≡ survivors_in (suffix p (c.loop-i.i - 1)) * defaults_in (table_of p) = let pre = c.requires in
     let f = at in
-    more_diagonal pre.0.sound f c.loop-i.invariant pre.1.0 (omega (arith, c.survivors.ensures, c.obligors_at.ensures)) c.pairs_of-diagonal.ensures in
+    more_diagonal pre.holds_table.sound f c.loop-i.invariant pre.all_defaults (omega (arith, c.survivors.ensures, c.obligors_at.ensures)) c.pairs_of-diagonal.ensures in
     let reached : Next (place_in c.args.place.now) c.loop-i.i (c.loop-i.curve + c.pairs_of-curve.result) (c.loop-i.diagonal + c.pairs_of-diagonal.result) = next c.requires.holds_table.sound c.loop-i-test.true at c.loop-i.invariant curve-is diagonal-is in
     let n = reached in omega (arith, n.small_b)
 
@@ -102,10 +102,10 @@ pub difference-height-requires : goal.difference-height-requires
 difference-height-requires c =
     let at : Turn c.args.place.now c.loop-i.i = turn _ _ c.requires.holds_table c.loop-i-test.true c.loop-i.invariant.inside in
     let curve-is : let p = place_in c.args.place.now in c.loop-i.curve + c.pairs_of-curve.result ≡ defaults_in (suffix p (c.loop-i.i - 1)) * survivors_in (table_of p) = let pre = c.requires in
-    more_curve pre.0.sound at c.loop-i.invariant pre.1.1 c.pairs_of-curve.ensures in
+    more_curve pre.holds_table.sound at c.loop-i.invariant pre.all_survivors c.pairs_of-curve.ensures in
     let diagonal-is : let p = place_in c.args.place.now in c.loop-i.diagonal + c.pairs_of-diagonal.result ≡ survivors_in (suffix p (c.loop-i.i - 1)) * defaults_in (table_of p) = let pre = c.requires in
     let f = at in
-    more_diagonal pre.0.sound f c.loop-i.invariant pre.1.0 (omega (arith, c.survivors.ensures, c.obligors_at.ensures)) c.pairs_of-diagonal.ensures in
+    more_diagonal pre.holds_table.sound f c.loop-i.invariant pre.all_defaults (omega (arith, c.survivors.ensures, c.obligors_at.ensures)) c.pairs_of-diagonal.ensures in
     let reached : Next (place_in c.args.place.now) c.loop-i.i (c.loop-i.curve + c.pairs_of-curve.result) (c.loop-i.diagonal + c.pairs_of-diagonal.result) = next c.requires.holds_table.sound c.loop-i-test.true at c.loop-i.invariant curve-is diagonal-is in
     let n = reached in (n.small_a, n.small_b)
 
@@ -121,10 +121,10 @@ pub loop-i-preserved-then-distance-here : goal.loop-i-preserved-then-distance-he
 loop-i-preserved-then-distance-here c =
     let at : Turn c.args.place.now c.loop-i.i = turn _ _ c.requires.holds_table c.loop-i-test.true c.loop-i.invariant.inside in
     let curve-is : let p = place_in c.args.place.now in c.loop-i.curve + c.pairs_of-curve.result ≡ defaults_in (suffix p (c.loop-i.i - 1)) * survivors_in (table_of p) = let pre = c.requires in
-    more_curve pre.0.sound at c.loop-i.invariant pre.1.1 c.pairs_of-curve.ensures in
+    more_curve pre.holds_table.sound at c.loop-i.invariant pre.all_survivors c.pairs_of-curve.ensures in
     let diagonal-is : let p = place_in c.args.place.now in c.loop-i.diagonal + c.pairs_of-diagonal.result ≡ survivors_in (suffix p (c.loop-i.i - 1)) * defaults_in (table_of p) = let pre = c.requires in
     let f = at in
-    more_diagonal pre.0.sound f c.loop-i.invariant pre.1.0 (omega (arith, c.survivors.ensures, c.obligors_at.ensures)) c.pairs_of-diagonal.ensures in
+    more_diagonal pre.holds_table.sound f c.loop-i.invariant pre.all_defaults (omega (arith, c.survivors.ensures, c.obligors_at.ensures)) c.pairs_of-diagonal.ensures in
     let reached : Next (place_in c.args.place.now) c.loop-i.i (c.loop-i.curve + c.pairs_of-curve.result) (c.loop-i.diagonal + c.pairs_of-diagonal.result) = next c.requires.holds_table.sound c.loop-i-test.true at c.loop-i.invariant curve-is diagonal-is in
     rw c.grades_of-grades.ensures
     (taken reached c.loop-i.invariant c.apart-here.ensures c.if-distance-here.true c.difference-height.result c.difference-height.ensures)
@@ -133,10 +133,10 @@ pub loop-i-preserved : goal.loop-i-preserved
 loop-i-preserved c =
     let at : Turn c.args.place.now c.loop-i.i = turn _ _ c.requires.holds_table c.loop-i-test.true c.loop-i.invariant.inside in
     let curve-is : let p = place_in c.args.place.now in c.loop-i.curve + c.pairs_of-curve.result ≡ defaults_in (suffix p (c.loop-i.i - 1)) * survivors_in (table_of p) = let pre = c.requires in
-    more_curve pre.0.sound at c.loop-i.invariant pre.1.1 c.pairs_of-curve.ensures in
+    more_curve pre.holds_table.sound at c.loop-i.invariant pre.all_survivors c.pairs_of-curve.ensures in
     let diagonal-is : let p = place_in c.args.place.now in c.loop-i.diagonal + c.pairs_of-diagonal.result ≡ survivors_in (suffix p (c.loop-i.i - 1)) * defaults_in (table_of p) = let pre = c.requires in
     let f = at in
-    more_diagonal pre.0.sound f c.loop-i.invariant pre.1.0 (omega (arith, c.survivors.ensures, c.obligors_at.ensures)) c.pairs_of-diagonal.ensures in
+    more_diagonal pre.holds_table.sound f c.loop-i.invariant pre.all_defaults (omega (arith, c.survivors.ensures, c.obligors_at.ensures)) c.pairs_of-diagonal.ensures in
     let reached : Next (place_in c.args.place.now) c.loop-i.i (c.loop-i.curve + c.pairs_of-curve.result) (c.loop-i.diagonal + c.pairs_of-diagonal.result) = next c.requires.holds_table.sound c.loop-i-test.true at c.loop-i.invariant curve-is diagonal-is in
     left reached c.loop-i.invariant c.apart-here.ensures c.if-distance-here.false
 

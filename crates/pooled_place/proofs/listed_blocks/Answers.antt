@@ -34,6 +34,6 @@ returns c =
     let f = c.blocks_in.ensures in
     let list = c.list_of.ensures ∙ held_list h in
     let e = ap (λ (n : ℕ). runs_in n c.list_of.result.now) count ∙ ap (λ (l : List ℕ). runs_in (length (table_in words)) l) list ∙ pooled_back (table_in words) h.sound no_list in record {
-      blocks = (f.0.0 ∙ ap block_words e, f.0.1);
-      length = f.1;
+      blocks = (f.blocks.0 ∙ ap block_words e, f.blocks.1);
+      length = f.length;
     }

@@ -32,8 +32,8 @@ pub next_row-requires : goal.next_row-requires
 next_row-requires c =
     let w = c.loop-j.invariant in
     let pre = c.requires in record {
-      size = (omega arith, pre.0);
-      sums = pre.1.0;
+      size = (omega arith, pre.size);
+      sums = pre.sums;
       rows = (w.values, w.choices);
     }
 

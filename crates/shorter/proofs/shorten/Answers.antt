@@ -21,8 +21,8 @@ fill_rows-requires c =
     let grades : c.grades_of-grades.result ≡ length (table_in c.args.place.now) = let p = place_in c.args.place.now in c.grades_of-grades.ensures ∙ sym (length_grades p 0 p.grades) in
     let p = c.requires in
     let is = grades in record {
-      size = (p.1.1.0, rw is p.1.1.1, rw is p.0.sound.few);
-      sums = rw is (falling p.0.sound p.1.0);
+      size = (p.runs.0, rw is p.runs.1, rw is p.place.sound.few);
+      sums = rw is (falling p.place.sound p.sums);
       room = (refl, refl);
     }
 
@@ -32,16 +32,16 @@ write_ends-requires c =
     let known : let a = c.args in Searched (table_in a.place.now) a.sums.now (record { runs = a.runs; grades = c.grades_of-grades.result }) c.fill_rows.new.values c.fill_rows.new.values.1.0 = let p = c.requires in
     let is = grades in
     record {
-      sound = p.0.sound;
-      sums = p.1.0;
+      sound = p.place.sound;
+      sums = p.sums;
       is = is;
-      range = (p.1.1.0, rw is p.1.1.1, rw is p.0.sound.few);
+      range = (p.runs.0, rw is p.runs.1, rw is p.place.sound.few);
       values = c.fill_rows.ensures.values;
       choices = c.fill_rows.ensures.choices;
     } in
     let p = c.requires in
     let k = known in record {
-      size = (p.1.1.0, p.1.1.2, rw k.is p.0.sound.few);
+      size = (p.runs.0, p.runs.2, rw k.is p.place.sound.few);
       choices = leads k;
     }
 
@@ -51,10 +51,10 @@ overflow_mul-sums c =
     let known : let a = c.args in Searched (table_in a.place.now) a.sums.now (record { runs = a.runs; grades = c.grades_of-grades.result }) c.fill_rows.new.values c.fill_rows.new.values.1.0 = let p = c.requires in
     let is = grades in
     record {
-      sound = p.0.sound;
-      sums = p.1.0;
+      sound = p.place.sound;
+      sums = p.sums;
       is = is;
-      range = (p.1.1.0, rw is p.1.1.1, rw is p.0.sound.few);
+      range = (p.runs.0, rw is p.runs.1, rw is p.place.sound.few);
       values = c.fill_rows.ensures.values;
       choices = c.fill_rows.ensures.choices;
     } in
@@ -66,10 +66,10 @@ difference-requires c =
     let known : let a = c.args in Searched (table_in a.place.now) a.sums.now (record { runs = a.runs; grades = c.grades_of-grades.result }) c.fill_rows.new.values c.fill_rows.new.values.1.0 = let p = c.requires in
     let is = grades in
     record {
-      sound = p.0.sound;
-      sums = p.1.0;
+      sound = p.place.sound;
+      sums = p.sums;
       is = is;
-      range = (p.1.1.0, rw is p.1.1.1, rw is p.0.sound.few);
+      range = (p.runs.0, rw is p.runs.1, rw is p.place.sound.few);
       values = c.fill_rows.ensures.values;
       choices = c.fill_rows.ensures.choices;
     } in
@@ -81,10 +81,10 @@ returns c =
     let known : let a = c.args in Searched (table_in a.place.now) a.sums.now (record { runs = a.runs; grades = c.grades_of-grades.result }) c.fill_rows.new.values c.fill_rows.new.values.1.0 = let p = c.requires in
     let is = grades in
     record {
-      sound = p.0.sound;
-      sums = p.1.0;
+      sound = p.place.sound;
+      sums = p.sums;
       is = is;
-      range = (p.1.1.0, rw is p.1.1.1, rw is p.0.sound.few);
+      range = (p.runs.0, rw is p.runs.1, rw is p.place.sound.few);
       values = c.fill_rows.ensures.values;
       choices = c.fill_rows.ensures.choices;
     } in

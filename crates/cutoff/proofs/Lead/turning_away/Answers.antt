@@ -11,7 +11,7 @@ use Rattle.cutoff.proofs.Sweep.{Turning, turning_starts, turning_ended, turning_
 use Rattle.cutoff.proofs.Lead.turning_away.Goals as goal
 
 pub loop-lead-init : goal.loop-lead-init
-loop-lead-init c = let pre = c.requires in turning_starts pre.0.1.1 pre.1.0
+loop-lead-init c = let pre = c.requires in turning_starts pre.scale.1.1 pre.fewer
 
 pub overflow_sub-lead : goal.overflow_sub-lead
 overflow_sub-lead c =

@@ -17,14 +17,14 @@ pub hold-requires : goal.hold-requires
 hold-requires c =
     let read : let a = c.args in Stored c.read_table-number.new.start.1.0 (table_from a.book.now a.start) = let p = c.requires.table in
     let e = c.read_table-number.ensures in
-    stored _ _ p.1 p.2 (sym e.0 ∙ c.if-number-ne0.false) (e.1.0 c.if-number-ne0.false) in
+    stored _ _ p.1 p.2 (sym e.value ∙ c.if-number-ne0.false) (e.place_after c.if-number-ne0.false) in
     (read.holds, c.requires.room)
 
 pub returns : goal.returns
 returns c =
     let read : let a = c.args in Stored c.read_table-number.new.start.1.0 (table_from a.book.now a.start) = let p = c.requires.table in
     let e = c.read_table-number.ensures in
-    stored _ _ p.1 p.2 (sym e.0 ∙ c.if-number-ne0.false) (e.1.0 c.if-number-ne0.false) in
+    stored _ _ p.1 p.2 (sym e.value ∙ c.if-number-ne0.false) (e.place_after c.if-number-ne0.false) in
     let h = c.hold.ensures in
     let f = c.read_table-number.ensures.value in record {
       value = sym c.if-number-ne0.false ∙ f;

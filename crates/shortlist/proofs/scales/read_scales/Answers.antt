@@ -19,7 +19,7 @@ raters_of-raters-requires c = let l = laid _ c.requires.laid in omega (arith, l.
 pub loop-rater-init : goal.loop-rater-init
 loop-rater-init c =
     let p = c.requires in
-    (c.raters_of-raters.ensures.0, none_read _ _ (laid _ p.0) p.1)
+    (c.raters_of-raters.ensures.0, none_read _ _ (laid _ p.laid) p.room)
 
 pub overflow_mul-from : goal.overflow_mul-from
 overflow_mul-from c =
