@@ -1,6 +1,6 @@
 -- Numbers, grades and tables that were written are read back, wherever in a list they stand.
 use Prim.Native.Nat.{ℕ, zero, suc, ◌+◌, ◌≤◌, ◌<◌}
-use mathlib.Core.Path.{◌≡◌, refl, ◌∙◌}
+use mathlib.Core.Path.{◌≡◌, refl, ap, ◌∙◌}
 use mathlib.Core.List.{List, [], ◌∷◌, ◌++◌, append_assoc}
 use native.Mathlib.Omega.{arith}
 use lib.ListN.{length}
@@ -54,13 +54,14 @@ rows_back : (t : Table) (w : List ℕ) → Every Counted t → Every Rated t →
 unfolding grades_in encode_grades obligors_in
 rows_back [] w c r h = refl
 rows_back (g ∷ t) w c r h =
-    rw (
-      append_assoc (encode_grade g) (encode_grades t) w,
-      grade_back g (encode_grades t ++ w) (omega arith) (omega arith) (omega arith),
-      append_assoc (encode_grade g) (encode_grades t) w,
-      rows_shift (encode_grade g) (encode_grades t ++ w) 0 (length t) 12 0 (omega (arith, length_grade g)),
-      rows_back t w c.1 r.1 (omega arith),
-    )
+    let v = encode_grades t ++ w in
+    let e : encode_grades (g ∷ t) ++ w ≡ encode_grade g ++ v = append_assoc (encode_grade g) (encode_grades t) w in
+    let head : grade_in (encode_grade g ++ v) 0 0 ≡ g = grade_back g v (omega arith) (omega arith) (omega arith) in
+    let shift : grades_in (encode_grade g ++ v) 0 (length t) 12 ≡ grades_in v 0 (length t) 0 =
+        rows_shift (encode_grade g) v 0 (length t) 12 0 (omega (arith, length_grade g))
+    in
+    let rest : grades_in v 0 (length t) 0 ≡ t = rows_back t w c.1 r.1 (omega arith) in
+    ap (λ (b : List ℕ). grades_in b 0 (suc (length t)) 0) e ∙ rw (head, shift ∙ rest)
 
 -- the table t stands at `at`, with kind 0
 pub record TableFrom (b : List ℕ) (at : ℕ) (t : Table) : Type 0 where
