@@ -5,19 +5,24 @@ use mathlib.Core.List.{[], ◌∷◌}
 use native.Mathlib.Omega.{arith}
 use borrow.Author.Rules.{rules}
 use Rattle.table.specs.Words.{table_in}
-use Rattle.book.specs.declared.Written.TheVariants.{Length}
+use Rattle.book.specs.declared.Written.TheVariants.{Length, Refused}
 use Rattle.book.specs.Encode.{book_size}
-use Rattle.book.proofs.Books.{fits, short, one_stored, size_one}
+use Rattle.book.proofs.Books.{Wrote, fits, short, one_stored, size_one}
 use Rattle.book.proofs.writer.write_one.Goals as goal
 
 pub returns-then-out-size : goal.returns-then-out-size
 returns-then-out-size c =
+    let out = c.args.out.now in
     let size : 6 + c.size_of-size.result ≡ book_size (table_in c.args.place.now ∷ []) = ap (λ n. 6 + n) c.size_of-size.ensures.0 ∙ sym (size_one _) in
-    let e = size in short _ _ (omega arith) (omega arith)
+    let wrote : Wrote (table_in c.args.place.now ∷ []) out (Refused 13) out = short _ _ (omega arith) (omega (arith, size)) in
+    record { value = wrote.0; out_after = wrote.1 }
 
 pub returns : goal.returns
 returns c =
-    let size : 6 + c.size_of-size.result ≡ book_size (table_in c.args.place.now ∷ []) = ap (λ n. 6 + n) c.size_of-size.ensures.0 ∙ sym (size_one _) in
-    let e = size in
-    fits _ c.args.out.now _ _ (omega arith) (omega arith) (ap Length e)
-    (rw (c.put_table.ensures, c.put_head.ensures) (one_stored _ _ _ e))
+    let ts = table_in c.args.place.now ∷ [] in
+    let out = c.args.out.now in
+    let size : 6 + c.size_of-size.result ≡ book_size ts = ap (λ n. 6 + n) c.size_of-size.ensures.0 ∙ sym (size_one _) in
+    let wrote : Wrote ts out (Length (6 + c.size_of-size.result)) c.put_table.new.out =
+        fits ts out _ _ (omega arith) (omega (arith, size)) (ap Length size) (rw (c.put_table.ensures, c.put_head.ensures) (one_stored _ _ _ size))
+    in
+    record { value = wrote.0; out_after = wrote.1 }
