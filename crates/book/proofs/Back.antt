@@ -58,7 +58,7 @@ rows_back (g ∷ t) w c r h =
     let e : encode_grades (g ∷ t) ++ w ≡ encode_grade g ++ v = append_assoc (encode_grade g) (encode_grades t) w in
     let head : grade_in (encode_grade g ++ v) 0 0 ≡ g = grade_back g v (omega arith) (omega arith) (omega arith) in
     let shift : grades_in (encode_grade g ++ v) 0 (length t) 12 ≡ grades_in v 0 (length t) 0 =
-        rows_shift (encode_grade g) v 0 (length t) 12 0 (omega (arith, length_grade g))
+    rows_shift (encode_grade g) v 0 (length t) 12 0 (omega (arith, length_grade g))
     in
     let rest : grades_in v 0 (length t) 0 ≡ t = rows_back t w c.1 r.1 (omega arith) in
     ap (λ (b : List ℕ). grades_in b 0 (suc (length t)) 0) e ∙ rw (head, shift ∙ rest)

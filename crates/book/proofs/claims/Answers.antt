@@ -12,17 +12,17 @@ use Rattle.book.proofs.claims.Goals as goal
 pub returns : goal.returns
 returns c =
     record {
-  reading_is_sound = accepted;
-  sound_tables_are_read = sound_accepted;
-  nine_means_all_empty = nine_means;
-  all_empty_is_told = empty_told;
-  falls_are_told = fall_told;
-  falls_are_meant = fall_meant;
-  first_column_is_of_its_kind = first_column;
-  written_book_reads_back = round_trip;
-  read_book_writes_back = written_again;
-  whole_books_are_read = whole_read;
-  first_fault_is_told = first_told;
-  wrong_cuts_are_told = cut_told;
-  wrong_cuts_are_meant = cut_meant;
-}
+      reading_is_sound = accepted;
+      sound_tables_are_read = sound_accepted;
+      nine_means_all_empty = nine_means;
+      all_empty_is_told = empty_told;
+      falls_are_told = fall_told;
+      falls_are_meant = fall_meant;
+      first_column_is_of_its_kind = first_column;
+      written_book_reads_back = round_trip;
+      read_book_writes_back = written_again;
+      whole_books_are_read = whole_read;
+      first_fault_is_told = first_told;
+      wrong_cuts_are_told = cut_told;
+      wrong_cuts_are_meant = cut_meant;
+    }

@@ -1,6 +1,5 @@
 -- `put_four` meets its contract.
 use mathlib.Core.Path.{◌∙◌}
-use borrow.Author.Rules.{rules}
 use Rattle.book.specs.Bytes.{four_bytes}
 use Rattle.book.proofs.Stored.{stored_two}
 use Rattle.book.proofs.Books.{length_two}

@@ -1,7 +1,6 @@
 -- `put_two` meets its contract.
 use native.Mathlib.Numerals.{add-one}
 use native.Mathlib.Omega.{arith}
-use borrow.Author.Rules.{rules}
 use lib.ListN.{length-set}
 use Rattle.book.specs.Bytes.{two_bytes}
 use Rattle.book.specs.Private.{stored}

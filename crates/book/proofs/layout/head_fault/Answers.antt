@@ -1,6 +1,5 @@
 -- `head_fault` meets its contract.
 use native.Mathlib.Omega.{arith}
-use borrow.Author.Rules.{rules}
 use Rattle.book.specs.Layout.{head_checks}
 use Rattle.book.proofs.Checks.{found, none, pass, same, over, other}
 use Rattle.book.proofs.layout.head_fault.Goals as goal

@@ -1,6 +1,5 @@
 -- `table_fault` meets its contract.
 use native.Mathlib.Omega.{arith}
-use borrow.Author.Rules.{rules}
 use Rattle.book.specs.Layout.{table_checks}
 use Rattle.book.proofs.Checks.{found, none, pass, same, over, other}
 use Rattle.book.proofs.layout.table_fault.Goals as goal

@@ -5,7 +5,6 @@ use mathlib.Core.List.{List, [], ◌∷◌}
 use native.Mathlib.Nat.{sub-zero}
 use native.Mathlib.Numerals.{add-one}
 use native.Mathlib.Omega.{arith}
-use borrow.Author.Rules.{rules}
 use lib.ListN.{length}
 use Rattle.book.specs.Checks.{equal, fault}
 use Rattle.book.specs.Layout.{raters, end_of, leftover_fault, head_checks, table_checks, tables_fault_from, tables_fault_lem}
@@ -19,7 +18,7 @@ record Turn (b : List ℕ) (at j n : ℕ) : Type 0 where
 
 turn : (b : List ℕ) (at j n : ℕ) → Walked b at j → j < raters b → n ≡ fault (table_checks b (j + 1) at) → Turn b at j n
 unfolding tables_fault_from
-turn b at j n inv h e =    let s : raters b - j ≡ suc (raters b - (j + 1)) = omega arith in
+turn b at j n inv h e = let s : raters b - j ≡ suc (raters b - (j + 1)) = omega arith in
     let rest = rw (s, ← e, ← add-one (j + 1)) at inv.rest in
     record {
       stops = λ k. sym (first_some n _ k) ∙ rest;

@@ -1,6 +1,5 @@
 -- `fill` meets its contract.
 use mathlib.Core.Path.{sym, ◌∙◌}
-use borrow.Author.Rules.{rules}
 use Rattle.book.proofs.Filled.{kept}
 use Rattle.book.proofs.reader.fill.Goals as goal
 

@@ -1,12 +1,11 @@
 -- `read_table` meets its contract. The invariant: the total is that of the first i rows, the rows from row i on, behind one that announced the
 -- rate `before`, have the fault that all have, and to store them is to store all.
-use Prim.Native.Nat.{ℕ, ◌+◌, ◌-◌, ◌*◌, ◌≤◌, ◌<◌}
+use Prim.Native.Nat.{ℕ, ◌+◌, ◌-◌, ◌≤◌, ◌<◌}
 use mathlib.Core.Path.{◌≡◌, refl, sym, ap, ◌∙◌}
 use mathlib.Core.List.{List, [], ◌∷◌, ◌++◌, map}
 use native.Mathlib.Nat.{sub-zero}
 use native.Mathlib.Numerals.{add-one}
 use native.Mathlib.Omega.{arith}
-use borrow.Author.Rules.{rules}
 use lib.ListN.{length, set, length-set, length-map}
 use Rattle.table.specs.Table.{Table, Grade, obligors_in}
 use Rattle.table.specs.Place.{fresh, place_of}
@@ -15,12 +14,12 @@ use Rattle.table.proofs.Sums.{obligors_append}
 use Rattle.book.specs.declared.Row.{Row}
 use Rattle.book.specs.Checks.{fault}
 use Rattle.book.specs.Layout.{grades_at, kind_at}
-use Rattle.book.specs.Rows.{grade_in, grades_in, table_from, later_checks, later_fault, rows_fault, total_checks, table_fault_lem}
+use Rattle.book.specs.Rows.{grade_in, grades_in, table_from, later_checks, later_fault, total_checks, table_fault_lem}
 use Rattle.book.specs.Private.{stored, grade_of, capped_grade, sum_checks}
 use Rattle.book.proofs.Checks.{first_none, first_some}
 use Rattle.book.proofs.Rows.{rows_end, rows_at, rows_more, length_rows, capped_table, capped_more, capped-fault, rows_later, sum-fault, faultless_exact, by_rows, by_total}
 use Rattle.book.proofs.Filled.{columns_after, row-stored, place_filled}
-use Rattle.book.proofs.reader.read_table.Invariants.{read, rest, Swept}
+use Rattle.book.proofs.reader.read_table.Invariants.{read, Swept}
 use Rattle.book.proofs.reader.read_table.Goals as goal
 
 -- the words with row r as grade i
@@ -35,7 +34,7 @@ turn : (b : List ℕ) (start : ℕ) (w₀ w : List ℕ) (total before at i n : �
     → grades_at b start ≤ 40 → r.defaults ≤ 4_294_967_295 → grade_of r ≡ capped_grade (grade_in b (kind_at b start) at)
     → n ≡ fault (later_checks before (grade_of r)) → Turn b start w₀ w total at i n r
 unfolding later_fault obligors_in
-turn b start w₀ w total before at i n r inv h few fits e en =    let k = kind_at b start in
+turn b start w₀ w total before at i n r inv h few fits e en = let k = kind_at b start in
     let g = grade_in b k at in
     let next = grades_in b k (grades_at b start - (i + 1)) (at + 12) in
     let low : r.obligors.0 ≤ 4_294_967_295 = omega (arith, ap (λ (x : Grade). x.obligors) e) in
@@ -68,7 +67,7 @@ record Ended (t : Table) (w₀ w : List ℕ) (n : ℕ) : Type 0 where
 ended : (b : List ℕ) (start : ℕ) (w₀ w : List ℕ) (total before at i n : ℕ) → Swept b start w₀ w total before at i → grades_at b start ≤ i
     → n ≡ fault (sum_checks total) → Ended (table_from b start) w₀ w n
 unfolding later_fault stored
-ended b start w₀ w total before at i n inv h en =    let t = table_from b start in
+ended b start w₀ w total before at i n inv h en = let t = table_from b start in
     let none_left = rows_end b (kind_at b start) (grades_at b start) i at h in
     let e : i ≡ grades_at b start = omega (arith, inv.to) in
     let q : n ≡ fault (total_checks t) = en ∙ sum-fault t total (rw e at inv.sum) in
@@ -79,7 +78,7 @@ ended b start w₀ w total before at i n inv h en =    let t = table_from b star
 
 filled : (b : List ℕ) (start : ℕ) (w₀ w : List ℕ) (n : ℕ) → w ≡ columns_after w₀ 0 (table_from b start) → w₀ ≡ words_of fresh → grades_at b start ≤ 40
     → n ≡ grades_at b start → set (set w 120 n) 121 1 ≡ words_of (place_of (table_from b start))
-filled b start w₀ w n e empty few g =    let t = table_from b start in
+filled b start w₀ w n e empty few g = let t = table_from b start in
     let l : length t ≡ grades_at b start = length_rows b (kind_at b start) (grades_at b start) (start + 4) in
     rw (e, empty) (place_filled t (omega arith) n (g ∙ sym l))
 
@@ -99,14 +98,14 @@ pub loop-i-init : goal.loop-i-init
 unfolding grades_in obligors_in
 loop-i-init c =
     record {
-  to = omega arith;
-  here = omega arith;
-  small = omega arith;
-  long = ap length c.requires.empty;
-  faults = rw sub-zero (sym (rows_later _));
-  sum = refl;
-  whole = rw sub-zero;
-}
+      to = omega arith;
+      here = omega arith;
+      small = omega arith;
+      long = ap length c.requires.empty;
+      faults = rw sub-zero (sym (rows_later _));
+      sum = refl;
+      whole = rw sub-zero;
+    }
 
 pub row_at-row-requires : goal.row_at-row-requires
 row_at-row-requires c = omega arith

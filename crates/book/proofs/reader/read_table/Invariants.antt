@@ -1,25 +1,14 @@
 -- `read_table` meets its contract. The invariant: the total is that of the first i rows, the rows from row i on, behind one that announced the
 -- rate `before`, have the fault that all have, and to store them is to store all.
-use Prim.Native.Nat.{ℕ, ◌+◌, ◌-◌, ◌*◌, ◌≤◌, ◌<◌}
-use mathlib.Core.Path.{◌≡◌, refl, sym, ap, ◌∙◌}
-use mathlib.Core.List.{List, [], ◌∷◌, ◌++◌, map}
-use native.Mathlib.Nat.{sub-zero}
-use native.Mathlib.Numerals.{add-one}
-use native.Mathlib.Omega.{arith}
-use borrow.Author.Rules.{rules}
-use lib.ListN.{length, set, length-set, length-map}
-use Rattle.table.specs.Table.{Table, Grade, obligors_in}
-use Rattle.table.specs.Place.{fresh, place_of}
-use Rattle.table.specs.Words.{words_of}
-use Rattle.table.proofs.Sums.{obligors_append}
-use Rattle.book.specs.declared.Row.{Row}
-use Rattle.book.specs.Checks.{fault}
+use Prim.Native.Nat.{ℕ, ◌+◌, ◌-◌, ◌*◌, ◌≤◌}
+use mathlib.Core.Path.{◌≡◌}
+use mathlib.Core.List.{List}
+use lib.ListN.{length}
+use Rattle.table.specs.Table.{Table, obligors_in}
 use Rattle.book.specs.Layout.{grades_at, kind_at}
-use Rattle.book.specs.Rows.{grade_in, grades_in, table_from, later_checks, later_fault, rows_fault, total_checks, table_fault_lem}
-use Rattle.book.specs.Private.{stored, grade_of, capped_grade, sum_checks}
-use Rattle.book.proofs.Checks.{first_none, first_some}
-use Rattle.book.proofs.Rows.{rows_end, rows_at, rows_more, length_rows, capped_table, capped_more, capped-fault, rows_later, sum-fault, faultless_exact, by_rows, by_total}
-use Rattle.book.proofs.Filled.{columns_after, row-stored, place_filled}
+use Rattle.book.specs.Rows.{grades_in, table_from, later_fault, rows_fault}
+use Rattle.book.proofs.Rows.{capped_table}
+use Rattle.book.proofs.Filled.{columns_after}
 use Rattle.book.proofs.reader.read_table.Given as goal
 
 -- the rows read, and the rows to come

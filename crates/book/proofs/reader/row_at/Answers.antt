@@ -1,5 +1,4 @@
 -- `row_at` meets its contract.
-use borrow.Author.Rules.{rules}
 use Rattle.book.specs.Rows.{grade_in}
 use Rattle.book.proofs.reader.row_at.Goals as goal
 

@@ -1,6 +1,5 @@
 -- `total_fault` meets its contract.
 use native.Mathlib.Omega.{arith}
-use borrow.Author.Rules.{rules}
 use Rattle.book.proofs.Checks.{found, none, pass, over}
 use Rattle.book.proofs.reader.total_fault.Goals as goal
 

@@ -1,6 +1,5 @@
 -- `put_head` meets its contract.
 use mathlib.Core.Path.{◌∙◌}
-use borrow.Author.Rules.{rules}
 use Rattle.book.proofs.Books.{head_stored}
 use Rattle.book.proofs.writer.put_head.Goals as goal
 

@@ -1,6 +1,5 @@
 -- `put_row` meets its contract.
 use mathlib.Core.Path.{◌∙◌}
-use borrow.Author.Rules.{rules}
 use Rattle.book.specs.Private.{grade_of}
 use Rattle.book.proofs.Books.{grade_stored}
 use Rattle.book.proofs.writer.put_row.Goals as goal

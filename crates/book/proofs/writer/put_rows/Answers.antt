@@ -1,15 +1,15 @@
 -- `put_rows` meets its contract. The invariant: to store the grades from grade i on is to store all.
-use Prim.Native.Nat.{ℕ, ◌+◌, ◌-◌, ◌*◌, ◌≤◌, ◌<◌}
+use Prim.Native.Nat.{ℕ, ◌+◌, ◌<◌}
 use mathlib.Core.Path.{◌≡◌, refl, sym, ◌∙◌}
 use mathlib.Core.List.{List}
 use native.Mathlib.Nat.{zero-add}
 use native.Mathlib.Omega.{arith}
 use lib.ListN.{length, get_or}
 use Rattle.table.specs.declared.Place.{Place}
-use Rattle.table.specs.Place.{grade_at, table_of}
+use Rattle.table.specs.Place.{grade_at}
 use Rattle.table.specs.Words.{place_in}
 use Rattle.table.proofs.Words.{column-at}
-use Rattle.table.proofs.Suffix.{suffix, suffix_all, suffix_end, suffix_at}
+use Rattle.table.proofs.Suffix.{suffix_all, suffix_end, suffix_at}
 use Rattle.book.specs.Private.{stored}
 use Rattle.book.specs.Encode.{encode_grade, encode_grades}
 use Rattle.book.proofs.Stored.{stored_two, stored-length, stored_none}
@@ -20,7 +20,7 @@ use Rattle.book.proofs.writer.put_rows.Goals as goal
 put : (p : Place) (whole : List ℕ) (size start : ℕ) (out : List ℕ) (at i : ℕ) (next : List ℕ) → Put p whole size start out at i → i < p.grades
     → next ≡ stored out at (encode_grade (grade_at p i)) → Put p whole size start next (at + 12) (i + 1)
 unfolding encode_grades
-put p whole size start out at i next inv h e =    let m : at + length (encode_grade (grade_at p i)) ≡ at + 12 = rw length_grade in
+put p whole size start out at i next inv h e = let m : at + length (encode_grade (grade_at p i)) ≡ at + 12 = rw length_grade in
     record {
       to = omega arith;
       here = omega arith;

@@ -1,19 +1,14 @@
 -- `put_rows` meets its contract. The invariant: to store the grades from grade i on is to store all.
-use Prim.Native.Nat.{ℕ, ◌+◌, ◌-◌, ◌*◌, ◌≤◌, ◌<◌}
-use mathlib.Core.Path.{◌≡◌, refl, sym, ◌∙◌}
+use Prim.Native.Nat.{ℕ, ◌+◌, ◌-◌, ◌*◌, ◌≤◌}
+use mathlib.Core.Path.{◌≡◌}
 use mathlib.Core.List.{List}
-use native.Mathlib.Nat.{zero-add}
-use native.Mathlib.Omega.{arith}
-use lib.ListN.{length, get_or}
+use lib.ListN.{length}
 use Rattle.table.specs.declared.Place.{Place}
-use Rattle.table.specs.Place.{grade_at, table_of}
+use Rattle.table.specs.Place.{table_of}
 use Rattle.table.specs.Words.{place_in}
-use Rattle.table.proofs.Words.{column-at}
-use Rattle.table.proofs.Suffix.{suffix, suffix_all, suffix_end, suffix_at}
+use Rattle.table.proofs.Suffix.{suffix}
 use Rattle.book.specs.Private.{stored}
-use Rattle.book.specs.Encode.{encode_grade, encode_grades}
-use Rattle.book.proofs.Stored.{stored_two, stored-length, stored_none}
-use Rattle.book.proofs.Books.{length_grade}
+use Rattle.book.specs.Encode.{encode_grades}
 use Rattle.book.proofs.writer.put_rows.Given as goal
 
 pub record Put (p : Place) (whole : List ℕ) (size start : ℕ) (out : List ℕ) (at i : ℕ) : Type 0 where

@@ -1,6 +1,5 @@
 -- `put_table` meets its contract.
 use native.Mathlib.Omega.{arith}
-use borrow.Author.Rules.{rules}
 use Rattle.table.specs.Words.{place_in, table_in}
 use Rattle.book.proofs.Books.{length-lent, table_stored}
 use Rattle.book.proofs.writer.put_table.Goals as goal

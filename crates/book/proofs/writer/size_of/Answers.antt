@@ -1,6 +1,5 @@
 -- `size_of` meets its contract.
 use native.Mathlib.Omega.{arith}
-use borrow.Author.Rules.{rules}
 use Rattle.book.proofs.Books.{length-lent}
 use Rattle.book.proofs.writer.size_of.Goals as goal
 

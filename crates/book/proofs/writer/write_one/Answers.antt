@@ -3,7 +3,6 @@ use Prim.Native.Nat.{◌+◌}
 use mathlib.Core.Path.{◌≡◌, sym, ap, ◌∙◌}
 use mathlib.Core.List.{[], ◌∷◌}
 use native.Mathlib.Omega.{arith}
-use borrow.Author.Rules.{rules}
 use Rattle.table.specs.Words.{table_in}
 use Rattle.book.specs.declared.Written.TheVariants.{Length, Refused}
 use Rattle.book.specs.Encode.{book_size}
@@ -23,6 +22,6 @@ returns c =
     let out = c.args.out.now in
     let size : 6 + c.size_of-size.result ≡ book_size ts = ap (λ n. 6 + n) c.size_of-size.ensures.0 ∙ sym (size_one _) in
     let wrote : Wrote ts out (Length (6 + c.size_of-size.result)) c.put_table.new.out =
-        fits ts out _ _ (omega arith) (omega (arith, size)) (ap Length size) (rw (c.put_table.ensures, c.put_head.ensures) (one_stored _ _ _ size))
+    fits ts out _ _ (omega arith) (omega (arith, size)) (ap Length size) (rw (c.put_table.ensures, c.put_head.ensures) (one_stored _ _ _ size))
     in
     record { value = wrote.0; out_after = wrote.1 }

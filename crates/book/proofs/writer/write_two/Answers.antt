@@ -3,7 +3,6 @@ use Prim.Native.Nat.{◌+◌}
 use mathlib.Core.Path.{◌≡◌, sym, ap}
 use mathlib.Core.List.{[], ◌∷◌}
 use native.Mathlib.Omega.{arith}
-use borrow.Author.Rules.{rules}
 use Rattle.table.specs.Words.{table_in}
 use Rattle.book.specs.declared.Written.TheVariants.{Length, Refused}
 use Rattle.book.specs.Encode.{size_of, book_size}
@@ -26,7 +25,7 @@ returns c =
     let next : 8 + c.size_of-next.result ≡ 8 + size_of (table_in c.args.first.now) = ap (λ n. 8 + n) c.size_of-next.ensures.0 in
     let size : 8 + c.size_of-next.result + c.size_of.result ≡ book_size ts = rw (next, c.size_of.ensures.0) (sym (size_two _ _)) in
     let wrote : Wrote ts out (Length (8 + c.size_of-next.result + c.size_of.result)) c.put_table-2.new.out =
-        fits ts out _ _ (omega arith) (omega (arith, size)) (ap Length size)
-            (rw (c.put_table-2.ensures, c.put_table.ensures, c.put_two.ensures, c.put_head.ensures) (two_stored _ _ _ _ _ next size))
+    fits ts out _ _ (omega arith) (omega (arith, size)) (ap Length size)
+    (rw (c.put_table-2.ensures, c.put_table.ensures, c.put_two.ensures, c.put_head.ensures) (two_stored _ _ _ _ _ next size))
     in
     record { value = wrote.0; out_after = wrote.1 }
