@@ -1,5 +1,4 @@
 -- `block_at` meets its contract.
-use borrow.Author.Rules.{rules}
 use Rattle.pooling.proofs.block_at.Goals as goal
 
 pub returns : goal.returns

@@ -4,7 +4,6 @@ use mathlib.Core.Path.{◌≡◌, sym, ap, ◌∙◌}
 use mathlib.Core.Bool.{true, false}
 use mathlib.Core.List.{List, [], ◌∷◌}
 use native.Mathlib.Omega.{arith}
-use borrow.Author.Rules.{rules}
 use lib.ListN.{length, get_or, drop, length-drop, drop_of_length-le}
 use Rattle.pooling.specs.Pool.{Block}
 use Rattle.pooling.specs.Private.{block, block_words, shows, grown, runs_in}
@@ -16,7 +15,7 @@ use Rattle.pooling.proofs.blocks_in.Goals as goal
 begin : (numbers : List ℕ) (grades : ℕ) (items : List ℕ) (n : ℕ) → n ≡ get_or numbers (3 * grades - 3 + 1) 0 → 1 ≤ grades → grades ≤ 40
     → length items ≡ 120 → Passed numbers grades items (3 * grades - 3) (block 1 n (get_or numbers (3 * grades - 3) 0)) 120
 unfolding runs_in grown block_words
-begin numbers grades items n of some few full =    let one : grades - (grades - 1) ≡ 1 = omega arith in
+begin numbers grades items n of some few full = let one : grades - (grades - 1) ≡ 1 = omega arith in
     let i : 3 * grades - 3 ≡ 3 * (grades - 1) = omega arith in
     record {
       left = grades - 1;
@@ -34,13 +33,13 @@ begin numbers grades items n of some few full =    let one : grades - (grades - 
 -- A block that is stored leaves the array as long as it was.
 stored-full : (items after : List ℕ) (at : ℕ) (x : Block) → length items ≡ 120 → 3 ≤ at → at ≤ 120
     → drop (at - 3) after ≡ x.grades ∷ x.obligors.0 ∷ x.defaults ∷ drop (at - 3 + 3) items → length after ≡ 120
-stored-full items after at x full high low put =    let n = ap (λ (l : List ℕ). length l) put in
+stored-full items after at x full high low put = let n = ap (λ (l : List ℕ). length l) put in
     omega (arith, n, length-drop (at - 3) after, length-drop (at - 3 + 3) items)
 
 module _ (numbers : List ℕ) (grades : ℕ) (items : List ℕ) (i : ℕ) (x : Block) (at : ℕ) (p : Passed numbers grades items i x at) (pos : 0 < i) (n : ℕ) (of : n ≡ get_or numbers (i - 3 + 1) 0) where
   -- One better grade: of the block in hand, or of a new one.
   next : runs_in (grades - (p.left - 1)) (drop (3 * (p.left - 1)) numbers) ≡ grown (get_or numbers (i - 3) 0) n (x ∷ p.stored)
-  next =    let k = p.left - 1 in
+  next = let k = p.left - 1 in
       let some : 0 < p.left = omega (arith, p.index) in
       let up : k + 1 ≡ p.left = omega arith in
       let m : grades - k ≡ suc (grades - p.left) = omega (arith, p.inside) in
@@ -50,24 +49,24 @@ module _ (numbers : List ℕ) (grades : ℕ) (items : List ℕ) (i : ℕ) (x : B
   taken : shows x (get_or numbers (i - 3) 0) n ≡ true
       → Passed numbers grades items (i - 3) (block (x.grades + 1) x.obligors.0 x.defaults) at
   unfolding grown
-  taken e =    record {
-        left = p.left - 1;
-        index = omega (arith, p.index);
-        inside = omega (arith, p.inside);
-        stored = p.stored;
-        words = p.words;
-        full = p.full;
-        runs = rw e at next;
-        high = omega (arith, p.high);
-        low = p.low;
-        few = omega (arith, p.few, p.index, p.inside);
-      }
+  taken e = record {
+    left = p.left - 1;
+    index = omega (arith, p.index);
+    inside = omega (arith, p.inside);
+    stored = p.stored;
+    words = p.words;
+    full = p.full;
+    runs = rw e at next;
+    high = omega (arith, p.high);
+    low = p.low;
+    few = omega (arith, p.few, p.index, p.inside);
+  }
 
   begun : shows x (get_or numbers (i - 3) 0) n ≡ false → (after : List ℕ)
       → drop (at - 3) after ≡ x.grades ∷ x.obligors.0 ∷ x.defaults ∷ drop (at - 3 + 3) items
       → Passed numbers grades after (i - 3) (block 1 n (get_or numbers (i - 3) 0)) (at - 3)
   unfolding grown block_words
-  begun e after put =    let back : at - 3 + 3 ≡ at = omega (arith, p.high) in
+  begun e after put = let back : at - 3 + 3 ≡ at = omega (arith, p.high) in
       record {
         left = p.left - 1;
         index = omega (arith, p.index);

@@ -1,14 +1,10 @@
 -- `blocks_in` meets its contract. The invariant: the grades from index i on are read, as the block in hand and those that are stored.
-use Prim.Native.Nat.{ℕ, suc, ◌+◌, ◌-◌, ◌*◌, ◌≤◌, ◌<◌}
-use mathlib.Core.Path.{◌≡◌, sym, ap, ◌∙◌}
-use mathlib.Core.Bool.{true, false}
-use mathlib.Core.List.{List, [], ◌∷◌}
-use native.Mathlib.Omega.{arith}
-use borrow.Author.Rules.{rules}
-use lib.ListN.{length, get_or, drop, length-drop, drop_of_length-le}
+use Prim.Native.Nat.{ℕ, ◌+◌, ◌-◌, ◌*◌, ◌≤◌, ◌<◌}
+use mathlib.Core.Path.{◌≡◌}
+use mathlib.Core.List.{List, ◌∷◌}
+use lib.ListN.{length, drop}
 use Rattle.pooling.specs.Pool.{Block}
-use Rattle.pooling.specs.Private.{block, block_words, shows, grown, runs_in}
-use Rattle.pooling.proofs.Reading.{runs_from, runs_whole}
+use Rattle.pooling.specs.Private.{block_words, runs_in}
 use Rattle.pooling.proofs.blocks_in.Given as goal
 
 pub record Passed (numbers : List ℕ) (grades : ℕ) (items : List ℕ) (i : ℕ) (x : Block) (at : ℕ) : Type 0 where

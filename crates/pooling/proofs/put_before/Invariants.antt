@@ -1,16 +1,11 @@
 -- `put_before` meets its contract. The invariant: the block in hand, put before those stored from `at` on, gives what the block called with
 -- gives before those from `from` on. The measure: a join takes one block away.
-use Prim.Native.Nat.{ℕ, ◌+◌, ◌-◌, ◌≤◌, ◌<◌}
-use mathlib.Core.Path.{◌≡◌, refl, sym, ap, ◌∙◌}
-use mathlib.Core.Bool.{true, false}
-use mathlib.Core.List.{List, ◌∷◌}
-use mathlib.Core.Logic.{⊎_elim}
-use native.Mathlib.Omega.{arith}
-use borrow.Author.Tests.{not-true, not-false}
-use lib.ListN.{length, drop, length-drop}
-use Rattle.pooling.specs.Pool.{Block, join, rate_below, front}
-use Rattle.pooling.specs.Private.{Fitting, sum_of, block_words, block_at_lem, blocks_in_lem}
-use Rattle.pooling.proofs.Words.{First, first, no_block}
+use Prim.Native.Nat.{ℕ, ◌-◌, ◌≤◌}
+use mathlib.Core.Path.{◌≡◌}
+use mathlib.Core.List.{List}
+use lib.ListN.{length, drop}
+use Rattle.pooling.specs.Pool.{Block, join, front}
+use Rattle.pooling.specs.Private.{Fitting, sum_of, block_words, blocks_in_lem}
 use Rattle.pooling.proofs.put_before.Given as goal
 
 pub record Joining (all : List Block) (b : Block) (items : List ℕ) (at : ℕ) : Type 0 where

@@ -1,6 +1,5 @@
 -- `store_block` meets its contract.
 use native.Mathlib.Omega.{arith}
-use borrow.Author.Rules.{rules}
 use Rattle.pooling.proofs.Backwards.{stored-three}
 use Rattle.pooling.proofs.store_block.Goals as goal
 

@@ -1,15 +1,12 @@
 -- `write_block` meets its contract. The invariant: from `at` on stand k grades of the block, and then what stood from `end` on.
-use Prim.Native.Nat.{ℕ, ◌+◌, ◌-◌, ◌*◌, ◌≤◌}
+use Prim.Native.Nat.{◌-◌, ◌*◌}
 use mathlib.Core.Path.{◌≡◌, refl}
-use mathlib.Core.List.{List, ◌++◌}
 use native.Mathlib.Numerals.{add-one}
 use native.Mathlib.Omega.{arith}
-use lib.ListN.{length, take, drop, length-set, take-append-drop}
-use Rattle.pooling.specs.Pool.{Block}
+use lib.ListN.{drop, length-set, take-append-drop}
 use Rattle.pooling.specs.Band.{band_of}
 use Rattle.pooling.specs.Numbers.{grades_of_lem}
 use Rattle.pooling.proofs.Backwards.{put_three}
-use Rattle.pooling.proofs.write_block.Invariants.{Written}
 use Rattle.pooling.proofs.write_block.Goals as goal
 
 pub loop-k-init : goal.loop-k-init

@@ -4,12 +4,9 @@ use Prim.Native.Nat.{ℕ, ◌+◌, ◌-◌, ◌*◌, ◌≤◌, ◌<◌}
 use mathlib.Core.Path.{◌≡◌, refl, ap, sym, ◌∙◌}
 use mathlib.Core.List.{List, ◌∷◌, ◌++◌}
 use native.Mathlib.Omega.{arith}
-use borrow.Author.Rules.{rules}
-use mir.Syntax.{w64}
-use mir.Val.{Fits}
 use lib.ListN.{length, take, drop, take-append-drop, drop_of_length-le}
 use Rattle.pooling.specs.Pool.{Block, Rising}
-use Rattle.pooling.specs.Private.{sum_of, block_words, blocks_in_lem}
+use Rattle.pooling.specs.Private.{sum_of, block_words, block_at_lem, blocks_in_lem}
 use Rattle.pooling.specs.Band.{band_of}
 use Rattle.pooling.specs.Limits.{listed_limits}
 use Rattle.pooling.specs.Numbers.{grades_of_lem, numbers_of_lem}
@@ -30,7 +27,8 @@ record Turn (bs : List Block) (items : List ℕ) (start at k : ℕ) : Type 0 whe
 turn : (bs : List Block) (items : List ℕ) (start at : ℕ) → drop start items ≡ block_words bs → Rising bs → (b : Between bs start at) → start < at
     → Turn bs items start at b.count
 unfolding sum_of Rising
-turn bs items start at held rising b h =    let k = b.count in
+turn bs items start at held rising b h =
+    let k = b.count in
     let l = last items bs start at held b h in
     record {
       block = l;
@@ -41,13 +39,60 @@ turn bs items start at held rising b h =    let k = b.count in
           bands_rise _ _ (rw before at (rising_drop bs (k - 1 - 1) rising)).0;
     }
 
+-- What a turn knows at the head of the loop, and of the block x that it reads.
+module _ {bs : List Block} {items : List ℕ} {start end₀ : ℕ} {out₀ out : List ℕ} {end at band : ℕ}
+    (more : start < at) (inv : Written bs items start end₀ out₀ out end at band) where
+  here : Turn bs items start at inv.between.count
+  here = turn _ _ _ _ inv.held inv.rising inv.between more
+
+  module _ (x : Block) (read : x ≡ block_at_lem items (at - 3)) where
+    is : x ≡ nth bs (inv.between.count - 1)
+    is = read ∙ here.block.here
+
+    -- It has no more grades than are left, and there is room for their numbers.
+    fewer : 3 * x.grades ≤ end
+    fewer = omega (arith, inv.all, inv.count, here.fewer, ap (λ y. y.grades) is)
+
+    within : end ≤ length out
+    within = omega (arith, inv.count, inv.room, inv.long)
+
+    lower : band_of x ≤ band
+    lower = rw is (inv.most more)
+
+    -- What stands once the block is written.
+    written : (new : List ℕ) → length new ≡ length out
+        → new ≡ take (end - 3 * x.grades) out ++ grades_of_lem x x.grades (drop end out)
+        → Written bs items start end₀ out₀ new (end - 3 * x.grades) (at - 3) (band_of x)
+    unfolding numbers_of_lem sum_of
+    written new same_length put =
+        let f = here in
+        let k = inv.between.count in
+        let split = f.block.from ∙ ap (λ y. y ∷ drop k bs) (sym is) in
+        let short : end ≤ length out₀ = omega (arith, inv.count, inv.room) in
+        let both = put_more out₀ _ out end (end - 3 * x.grades) (grades_of_lem x x.grades) inv.same (omega arith) short in
+        record {
+          held = inv.held;
+          full = inv.full;
+          between = record { count = k - 1; few = omega (arith, f.block.few); same = f.block.same };
+          rising = inv.rising;
+          all = inv.all;
+          small = inv.small;
+          room = inv.room;
+          long = same_length ∙ inv.long;
+          few = (band_right x).within;
+          most = λ h. omega (arith, ap band_of is, f.lower h);
+          count = rw split (omega (arith, inv.count, fewer));
+          same = rw split (rw both at put);
+        }
+
 pub overflow_mul-end : goal.overflow_mul-end
 overflow_mul-end c = let count = c.requires.room in omega arith
 
 pub loop-at-init : goal.loop-at-init
 unfolding numbers_of_lem sum_of
 loop-at-init c =
-    let (held, (rising, count)) = c.requires in
+    let held = c.requires.held in
+    let count = c.requires.room in
     let bs = blocks_in_lem (drop c.args.start c.args.items.now) in
     let between = at_end c.args.items.now bs c.args.start 120 held.0 (omega (arith, held.2)) held.1 in
     let none = drop_of_length-le bs {i = length bs} (omega arith) in (
@@ -56,7 +101,7 @@ loop-at-init c =
         held = held.0;
         full = held.1;
         between = between;
-        rising = rising;
+        rising = c.requires.rising;
         all = omega (arith, count.0);
         small = omega (arith, count.1);
         room = count.2;
@@ -69,147 +114,47 @@ loop-at-init c =
     )
 
 pub overflow_sub-at : goal.overflow_sub-at
-overflow_sub-at c =
-    let items : List ℕ = c.args.items.now in
-    let blocks : List Block = blocks_in_lem (drop c.args.start items) in
-    let at : Turn blocks items c.args.start c.loop-at.at c.loop-at.invariant.1.between.count = let inv = c.loop-at.invariant.1 in turn _ _ _ _ inv.held inv.rising inv.between c.loop-at.invariant.0 in
-    at.block.high
+overflow_sub-at c = let inv = c.loop-at.invariant in (here inv.0 inv.1).block.high
 
 pub block_at-x-requires : goal.block_at-x-requires
-block_at-x-requires c =
-    let items : List ℕ = c.args.items.now in
-    let blocks : List Block = blocks_in_lem (drop c.args.start items) in
-    let at : Turn blocks items c.args.start c.loop-at.at c.loop-at.invariant.1.between.count = let inv = c.loop-at.invariant.1 in turn _ _ _ _ inv.held inv.rising inv.between c.loop-at.invariant.0 in
-    at.block.room
+block_at-x-requires c = let inv = c.loop-at.invariant in (here inv.0 inv.1).block.room
 
 -- The constant has the listed limits.
 pub band-band-requires : goal.band-band-requires
 unfolding listed_limits
 band-band-requires c =
-    let items : List ℕ = c.args.items.now in
-    let blocks : List Block = blocks_in_lem (drop c.args.start items) in
-    let at : Turn blocks items c.args.start c.loop-at.at c.loop-at.invariant.1.between.count = let inv = c.loop-at.invariant.1 in turn _ _ _ _ inv.held inv.rising inv.between c.loop-at.invariant.0 in
-    let is : c.block_at-x.result ≡ nth blocks (c.loop-at.invariant.1.between.count - 1) = c.block_at-x.ensures ∙ at.block.here in
-    let inv = c.loop-at.invariant in record {
-      limits = refl;
-      most = (rw is (inv.1.most inv.0), inv.1.few);
-    }
+    let inv = c.loop-at.invariant in
+    record { limits = refl; most = (lower inv.0 inv.1 _ c.block_at-x.ensures, inv.1.few) }
 
 pub overflow_cast-band : goal.overflow_cast-band
 overflow_cast-band c = omega (arith, c.band-band.ensures, (band_right c.block_at-x.result).within)
 
 pub write_block-requires : goal.write_block-requires
 write_block-requires c =
-    let items : List ℕ = c.args.items.now in
-    let blocks : List Block = blocks_in_lem (drop c.args.start items) in
-    let at : Turn blocks items c.args.start c.loop-at.at c.loop-at.invariant.1.between.count = let inv = c.loop-at.invariant.1 in turn _ _ _ _ inv.held inv.rising inv.between c.loop-at.invariant.0 in
-    let is : c.block_at-x.result ≡ nth blocks (c.loop-at.invariant.1.between.count - 1) = c.block_at-x.ensures ∙ at.block.here in
-    let fewer : 3 * c.block_at-x.result.grades ≤ c.loop-at.end = let inv = c.loop-at.invariant.1 in
-    omega (arith, inv.all, inv.count, at.fewer, ap (λ x. x.grades) is) in
-    let within : c.loop-at.end ≤ length c.loop-at.out = let inv = c.loop-at.invariant.1 in omega (arith, inv.count, inv.room, inv.long) in
+    let inv = c.loop-at.invariant in
     record {
       band = c.band-band.ensures;
-      room = (fewer, within);
+      room = (fewer inv.0 inv.1 _ c.block_at-x.ensures, within inv.0 inv.1 _ c.block_at-x.ensures);
     }
 
 pub returns-then-at-start : goal.returns-then-at-start
-unfolding numbers_of_lem sum_of
 returns-then-at-start c =
-    let items : List ℕ = c.args.items.now in
-    let blocks : List Block = blocks_in_lem (drop c.args.start items) in
-    let at : Turn blocks items c.args.start c.loop-at.at c.loop-at.invariant.1.between.count = let inv = c.loop-at.invariant.1 in turn _ _ _ _ inv.held inv.rising inv.between c.loop-at.invariant.0 in
-    let ends : ℕ = c.loop-at.end - 3 * c.block_at-x.result.grades in
-    let is : c.block_at-x.result ≡ nth blocks (c.loop-at.invariant.1.between.count - 1) = c.block_at-x.ensures ∙ at.block.here in
-    let fewer : 3 * c.block_at-x.result.grades ≤ c.loop-at.end = let inv = c.loop-at.invariant.1 in
-    omega (arith, inv.all, inv.count, at.fewer, ap (λ x. x.grades) is) in
-    let written : Written blocks items c.args.start (3 * c.args.grades)
-    c.args.out.now c.write_block.new.band.1.1.0 ends (c.loop-at.at - 3) c.band-band.result = let f = at in
-    let inv = c.loop-at.invariant.1 in
-    let k = inv.between.count in
-    let b = c.band-band.ensures in
-    let o = c.args.out.now in
-    let x = c.block_at-x.result in
-    let split = f.block.from ∙ ap (λ y. y ∷ drop k blocks) (sym is) in
-    let end = c.loop-at.end in
-    let short : end ≤ length o = omega (arith, inv.count, inv.room) in
-    let more = put_more o _ c.loop-at.out end ends (grades_of_lem x x.grades) inv.same (omega arith) short in
-    record {
-      held = inv.held;
-      full = inv.full;
-      between = record { count = k - 1; few = omega (arith, f.block.few); same = f.block.same };
-      rising = inv.rising;
-      all = inv.all;
-      small = inv.small;
-      room = inv.room;
-      long = c.write_block.auto.1.1.1.0 ∙ inv.long;
-      few = omega (arith, b, (band_right x).within);
-      most = λ h. omega (arith, b, ap band_of is, f.lower h);
-      count = rw split (omega (arith, inv.count, fewer));
-      same = rw split (rw more at c.write_block.ensures);
-    } in
-    let w = written in
+    let inv = c.loop-at.invariant in
+    let w = written inv.0 inv.1 _ c.block_at-x.ensures _ c.write_block.auto.out c.write_block.ensures in
     let none : w.between.count ≡ 0 = omega (arith, c.if-at-start.true, w.between.same) in
-    let whole : ends ≡ 0 = omega (arith, w.all, rw none at w.count) in
+    let whole : c.loop-at.end - 3 * c.block_at-x.result.grades ≡ 0 = omega (arith, w.all, rw none at w.count) in
     rw (none, whole) at w.same
 
 pub overflow_mul-end-in-loop-at : goal.overflow_mul-end-in-loop-at
 overflow_mul-end-in-loop-at c =
-    let items : List ℕ = c.args.items.now in
-    let blocks : List Block = blocks_in_lem (drop c.args.start items) in
-    let at : Turn blocks items c.args.start c.loop-at.at c.loop-at.invariant.1.between.count = let inv = c.loop-at.invariant.1 in turn _ _ _ _ inv.held inv.rising inv.between c.loop-at.invariant.0 in
-    let is : c.block_at-x.result ≡ nth blocks (c.loop-at.invariant.1.between.count - 1) = c.block_at-x.ensures ∙ at.block.here in
-    let fewer : 3 * c.block_at-x.result.grades ≤ c.loop-at.end = let inv = c.loop-at.invariant.1 in
-    omega (arith, inv.all, inv.count, at.fewer, ap (λ x. x.grades) is) in
-    let fits : Fits w64 (3 * c.block_at-x.result.grades) = let inv = c.loop-at.invariant.1 in omega (arith, fewer, inv.count, inv.small) in
-    fits
+    let inv = c.loop-at.invariant in
+    omega (arith, fewer inv.0 inv.1 _ c.block_at-x.ensures, inv.1.count, inv.1.small)
 
 pub overflow_sub-end : goal.overflow_sub-end
-overflow_sub-end c =
-    let items : List ℕ = c.args.items.now in
-    let blocks : List Block = blocks_in_lem (drop c.args.start items) in
-    let at : Turn blocks items c.args.start c.loop-at.at c.loop-at.invariant.1.between.count = let inv = c.loop-at.invariant.1 in turn _ _ _ _ inv.held inv.rising inv.between c.loop-at.invariant.0 in
-    let is : c.block_at-x.result ≡ nth blocks (c.loop-at.invariant.1.between.count - 1) = c.block_at-x.ensures ∙ at.block.here in
-    let fewer : 3 * c.block_at-x.result.grades ≤ c.loop-at.end = let inv = c.loop-at.invariant.1 in
-    omega (arith, inv.all, inv.count, at.fewer, ap (λ x. x.grades) is) in
-    fewer
-
-pub loop-at-smaller : goal.loop-at-smaller
-loop-at-smaller c = omega arith
+overflow_sub-end c = let inv = c.loop-at.invariant in fewer inv.0 inv.1 _ c.block_at-x.ensures
 
 pub loop-at-preserved : goal.loop-at-preserved
-unfolding numbers_of_lem sum_of
 loop-at-preserved c =
-    let items : List ℕ = c.args.items.now in
-    let blocks : List Block = blocks_in_lem (drop c.args.start items) in
-    let at : Turn blocks items c.args.start c.loop-at.at c.loop-at.invariant.1.between.count = let inv = c.loop-at.invariant.1 in turn _ _ _ _ inv.held inv.rising inv.between c.loop-at.invariant.0 in
-    let is : c.block_at-x.result ≡ nth blocks (c.loop-at.invariant.1.between.count - 1) = c.block_at-x.ensures ∙ at.block.here in
-    let fewer : 3 * c.block_at-x.result.grades ≤ c.loop-at.end = let inv = c.loop-at.invariant.1 in
-    omega (arith, inv.all, inv.count, at.fewer, ap (λ x. x.grades) is) in
-    let ends : ℕ = c.loop-at.end - 3 * c.block_at-x.result.grades in
-    let written : Written blocks items c.args.start (3 * c.args.grades)
-    c.args.out.now c.write_block.new.band.1.1.0 ends (c.loop-at.at - 3) c.band-band.result = let f = at in
-    let inv = c.loop-at.invariant.1 in
-    let k = inv.between.count in
-    let b = c.band-band.ensures in
-    let o = c.args.out.now in
-    let x = c.block_at-x.result in
-    let split = f.block.from ∙ ap (λ y. y ∷ drop k blocks) (sym is) in
-    let end = c.loop-at.end in
-    let short : end ≤ length o = omega (arith, inv.count, inv.room) in
-    let more = put_more o _ c.loop-at.out end ends (grades_of_lem x x.grades) inv.same (omega arith) short in
-    record {
-      held = inv.held;
-      full = inv.full;
-      between = record { count = k - 1; few = omega (arith, f.block.few); same = f.block.same };
-      rising = inv.rising;
-      all = inv.all;
-      small = inv.small;
-      room = inv.room;
-      long = c.write_block.auto.1.1.1.0 ∙ inv.long;
-      few = omega (arith, b, (band_right x).within);
-      most = λ h. omega (arith, b, ap band_of is, f.lower h);
-      count = rw split (omega (arith, inv.count, fewer));
-      same = rw split (rw more at c.write_block.ensures);
-    } in
-    let w = written in
-    (omega (arith, c.if-at-start.false, w.between.same), w)
+    let inv = c.loop-at.invariant in
+    let w = written inv.0 inv.1 _ c.block_at-x.ensures _ c.write_block.auto.out c.write_block.ensures in
+    (omega (arith, c.if-at-start.false, w.between.same), rw c.band-band.ensures w)

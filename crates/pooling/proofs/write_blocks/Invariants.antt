@@ -1,23 +1,14 @@
 -- `write_blocks` meets its contract. The invariant: from `end` on stand the numbers of the blocks from index `at` on, and then the further ones;
 -- there is a block before them, and its band is at most the one in hand.
 use Prim.Native.Nat.{ℕ, ◌+◌, ◌-◌, ◌*◌, ◌≤◌, ◌<◌}
-use mathlib.Core.Path.{◌≡◌, refl, ap, sym, ◌∙◌}
-use mathlib.Core.List.{List, ◌∷◌, ◌++◌}
-use native.Mathlib.Omega.{arith}
-use borrow.Author.Rules.{rules}
-use mir.Syntax.{w64}
-use mir.Val.{Fits}
-use lib.ListN.{length, take, drop, take-append-drop, drop_of_length-le}
+use mathlib.Core.Path.{◌≡◌}
+use mathlib.Core.List.{List, ◌++◌}
+use lib.ListN.{length, take, drop}
 use Rattle.pooling.specs.Pool.{Block, Rising}
 use Rattle.pooling.specs.Private.{sum_of, block_words, blocks_in_lem}
 use Rattle.pooling.specs.Band.{band_of}
-use Rattle.pooling.specs.Limits.{listed_limits}
-use Rattle.pooling.specs.Numbers.{grades_of_lem, numbers_of_lem}
-use Rattle.pooling.proofs.Front.{rising_drop}
-use Rattle.pooling.proofs.Bands.{band_right, bands_rise}
-use Rattle.pooling.proofs.Words.{nth, nth_from, Between, Last, last, at_end}
-use Rattle.pooling.proofs.Joined.{grades_drop}
-use Rattle.pooling.proofs.Backwards.{put_more}
+use Rattle.pooling.specs.Numbers.{numbers_of_lem}
+use Rattle.pooling.proofs.Words.{nth, Between}
 use Rattle.pooling.proofs.write_blocks.Given as goal
 
 pub record Written (bs : List Block) (items : List ℕ) (start end₀ : ℕ) (out₀ out : List ℕ) (end at band : ℕ) : Type 0 where

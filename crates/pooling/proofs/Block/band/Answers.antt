@@ -6,7 +6,7 @@ use native.Mathlib.Omega.{arith}
 use borrow.Author.Rules.{rules}
 use lib.ListN.{length, get_or}
 use Rattle.table.proofs.Arithmetic.{words_fit}
-use Rattle.pooling.specs.Band.{band_limit, band_of}
+use Rattle.pooling.specs.Band.{band_limit}
 use Rattle.pooling.proofs.Bands.{band_at_most, band_above}
 use Rattle.pooling.proofs.Limits.{limits_right}
 use Rattle.pooling.proofs.Block.band.Goals as goal

@@ -1,7 +1,6 @@
 -- `joined` meets its contract.
 use Prim.Native.Nat.{◌+◌}
 use mathlib.Core.Path.{◌≡◌}
-use borrow.Author.Rules.{rules}
 use Rattle.pooling.proofs.Block.joined.Goals as goal
 
 pub returns : goal.returns
