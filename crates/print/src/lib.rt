@@ -1,16 +1,23 @@
-// Text and numbers on standard output.
+// Text and numbers, written to a stream. What is promised holds of a stream whose bytes are known; where a call fails, part of them may be written.
 #![tactic(auto)]
 
-ghost use Rattle.std.specs.Prelude.{◌≡◌, nat_abs};
+ghost use Rattle.std.specs.Prelude.{◌≡◌, nat_abs, OnOk};
+ghost use Rattle.std.specs.Fmt.{decimal, signed_decimal};
+ghost use Rattle.std.specs.Io.KnownBytes.{Appends};
 
-use libc::STDOUT_FILENO;
+use std::io;
+use std::io::Write;
 
-pub fn text(t: &[u8]) {
-    io::write_all(STDOUT_FILENO, t);
+pub fn text<W: Write>(out: &mut W, t: &[u8]) -> io::Result<()>
+    ensures { OnOk result (Appends (W.contents out.old) (W.contents out.new) t.now) }
+{
+    out.write_all(t)
 }
 
-pub fn number(n: u64) {
-    io::print_decimal(STDOUT_FILENO, n);
+pub fn number<W: Write>(out: &mut W, n: u64) -> io::Result<()>
+    ensures { OnOk result (Appends (W.contents out.old) (W.contents out.new) (decimal n)) }
+{
+    write!(out, "{n}")
 }
 
 // How large a number is, whatever its sign. The complement of a negative n is -n - 1, which fits where -n may not.
@@ -21,9 +28,11 @@ fn magnitude(n: i64) -> u64
 }
 
 // With a leading hyphen where it is negative.
-pub fn signed(n: i64) {
+pub fn signed<W: Write>(out: &mut W, n: i64) -> io::Result<()>
+    ensures { OnOk result (Appends (W.contents out.old) (W.contents out.new) (signed_decimal n)) }
+{
     if n < 0 {
-        text(b"-");
+        text(out, b"-")?;
     }
-    number(magnitude(n));
+    number(out, magnitude(n))
 }
