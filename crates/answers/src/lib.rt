@@ -1,4 +1,4 @@
-// The line of each answer, without its line feed.
+// The line of each answer, without its line feed, written to a stream. Where a call fails, part of the line may be written.
 #![tactic(auto)]
 
 ghost use Rattle.answers.specs.Answers.{Numbers, Plain};
@@ -7,197 +7,196 @@ use book::Written;
 use calls::{BrierAnswer, CheapestAnswer, CompareAnswer, MeasuresAnswer, SpreadAnswer};
 use cutoff::{Price, Verdict};
 use desk::Ack;
-use libc::STDOUT_FILENO;
 use measures::{Measures, SignedFraction, UnsignedFraction};
 use print::text;
 use shortlist::Shortlisted;
 use spread::Spread;
+use std::io;
+use std::io::Write;
 
-fn wide_number(n: u64) {
-    text(b" ");
-    print::number(n);
+fn wide_number<W: Write>(out: &mut W, n: u64) -> io::Result<()> {
+    text(out, b" ")?;
+    print::number(out, n)
 }
 
-fn number(n: u32) {
-    wide_number(n as u64);
+fn number<W: Write>(out: &mut W, n: u32) -> io::Result<()> {
+    wide_number(out, n as u64)
 }
 
-fn signed(n: i64) {
-    text(b" ");
-    print::signed(n);
+fn signed<W: Write>(out: &mut W, n: i64) -> io::Result<()> {
+    text(out, b" ")?;
+    print::signed(out, n)
 }
 
-fn refused(call: &[u8], n: u32) {
-    text(call);
-    text(b" refused");
-    number(n);
+fn refused<W: Write>(out: &mut W, call: &[u8], n: u32) -> io::Result<()> {
+    text(out, call)?;
+    text(out, b" refused")?;
+    number(out, n)
 }
 
 // Of a call that answers nothing further.
-pub fn ack(call: &[u8], a: Ack) {
+pub fn ack<W: Write>(out: &mut W, call: &[u8], a: Ack) -> io::Result<()> {
     match a {
         Ack::Done => {
-            text(call);
-            text(b" ok");
+            text(out, call)?;
+            text(out, b" ok")
         }
-        Ack::Refused(n) => refused(call, n),
+        Ack::Refused(n) => refused(out, call, n),
     }
 }
 
 // The whole of a lent buffer.
-fn numbers(lent: &[u32]) {
-    let mut i: usize = 0;
-    while i < lent.len() {
-        number(lent[i]);
-        i += 1;
+fn numbers<W: Write>(out: &mut W, lent: &[u32]) -> io::Result<()> {
+    for n in lent {
+        number(out, *n)?;
     }
+    Ok(())
 }
 
-pub fn pool(a: Ack, lent: &[u32]) {
-    ack(b"pool", a);
-    numbers(lent);
+pub fn pool<W: Write>(out: &mut W, a: Ack, lent: &[u32]) -> io::Result<()> {
+    ack(out, b"pool", a)?;
+    numbers(out, lent)
 }
 
-fn listed(a: Shortlisted) {
+fn listed<W: Write>(out: &mut W, a: Shortlisted) -> io::Result<()> {
     match a {
         Shortlisted::Count(n) => {
-            text(b"shortlist ok");
-            number(n);
+            text(out, b"shortlist ok")?;
+            number(out, n)
         }
-        Shortlisted::Refused(n) => refused(b"shortlist", n),
+        Shortlisted::Refused(n) => refused(out, b"shortlist", n),
     }
 }
 
-pub fn shortlist(a: Shortlisted, lent: &[u32]) {
-    listed(a);
-    numbers(lent);
+pub fn shortlist<W: Write>(out: &mut W, a: Shortlisted, lent: &[u32]) -> io::Result<()> {
+    listed(out, a)?;
+    numbers(out, lent)
 }
 
-pub fn cheapest(a: CheapestAnswer) {
+pub fn cheapest<W: Write>(out: &mut W, a: CheapestAnswer) -> io::Result<()> {
     match a {
         CheapestAnswer::Cheapest(c) => {
-            text(b"cheapest ok");
-            number(c.cutoff);
-            wide_number(c.cost);
+            text(out, b"cheapest ok")?;
+            number(out, c.cutoff)?;
+            wide_number(out, c.cost)
         }
-        CheapestAnswer::Refused(n) => refused(b"cheapest", n),
+        CheapestAnswer::Refused(n) => refused(out, b"cheapest", n),
     }
 }
 
-fn price(p: Price) {
-    number(p.u);
-    number(p.v);
+fn price<W: Write>(out: &mut W, p: Price) -> io::Result<()> {
+    number(out, p.u)?;
+    number(out, p.v)
 }
 
-fn verdict(v: Verdict) {
+fn verdict<W: Write>(out: &mut W, v: Verdict) -> io::Result<()> {
     match v {
-        Verdict::Equal => text(b" ok equal"),
+        Verdict::Equal => text(out, b" ok equal"),
         Verdict::First(p) => {
-            text(b" ok first");
-            price(p);
+            text(out, b" ok first")?;
+            price(out, p)
         }
         Verdict::Second(p) => {
-            text(b" ok second");
-            price(p);
+            text(out, b" ok second")?;
+            price(out, p)
         }
         Verdict::Crossing(p, q) => {
-            text(b" ok crossing");
-            price(p);
-            price(q);
+            text(out, b" ok crossing")?;
+            price(out, p)?;
+            price(out, q)
         }
     }
 }
 
 // Of either comparison.
-pub fn compare(call: &[u8], a: CompareAnswer) {
+pub fn compare<W: Write>(out: &mut W, call: &[u8], a: CompareAnswer) -> io::Result<()> {
     match a {
         CompareAnswer::Verdict(v) => {
-            text(call);
-            verdict(v);
+            text(out, call)?;
+            verdict(out, v)
         }
-        CompareAnswer::Refused(n) => refused(call, n),
+        CompareAnswer::Refused(n) => refused(out, call, n),
     }
 }
 
-fn fraction(f: UnsignedFraction) {
-    wide_number(f.numerator);
-    wide_number(f.denominator);
+fn fraction<W: Write>(out: &mut W, f: UnsignedFraction) -> io::Result<()> {
+    wide_number(out, f.numerator)?;
+    wide_number(out, f.denominator)
 }
 
-fn signed_fraction(f: SignedFraction) {
-    signed(f.numerator);
-    wide_number(f.denominator);
+fn signed_fraction<W: Write>(out: &mut W, f: SignedFraction) -> io::Result<()> {
+    signed(out, f.numerator)?;
+    wide_number(out, f.denominator)
 }
 
-fn four_measures(m: Measures) {
-    text(b"measures ok");
-    number(m.defaults);
-    number(m.survivors.0);
-    signed_fraction(m.gini);
-    fraction(m.roc);
-    fraction(m.cap);
-    signed_fraction(m.pietra);
-    number(m.cutoff);
+fn four_measures<W: Write>(out: &mut W, m: Measures) -> io::Result<()> {
+    text(out, b"measures ok")?;
+    number(out, m.defaults)?;
+    number(out, m.survivors.0)?;
+    signed_fraction(out, m.gini)?;
+    fraction(out, m.roc)?;
+    fraction(out, m.cap)?;
+    signed_fraction(out, m.pietra)?;
+    number(out, m.cutoff)
 }
 
-pub fn measures(a: MeasuresAnswer) {
+pub fn measures<W: Write>(out: &mut W, a: MeasuresAnswer) -> io::Result<()> {
     match a {
-        MeasuresAnswer::Measures(m) => four_measures(m),
-        MeasuresAnswer::Refused(n) => refused(b"measures", n),
+        MeasuresAnswer::Measures(m) => four_measures(out, m),
+        MeasuresAnswer::Refused(n) => refused(out, b"measures", n),
     }
 }
 
-pub fn brier(a: BrierAnswer) {
+pub fn brier<W: Write>(out: &mut W, a: BrierAnswer) -> io::Result<()> {
     match a {
         BrierAnswer::Brier(f) => {
-            text(b"brier ok");
-            fraction(f);
+            text(out, b"brier ok")?;
+            fraction(out, f)
         }
-        BrierAnswer::Refused(n) => refused(b"brier", n),
+        BrierAnswer::Refused(n) => refused(out, b"brier", n),
     }
 }
 
 // The 64 bits of a float have a number where it is one.
-fn floats(s: Spread)
+fn floats<W: Write>(out: &mut W, s: Spread) -> io::Result<()>
     requires { Numbers s }
 {
-    text(b"spread ok");
-    wide_number(f64::to_bits(s.total));
-    wide_number(f64::to_bits(s.residual));
+    text(out, b"spread ok")?;
+    wide_number(out, f64::to_bits(s.total))?;
+    wide_number(out, f64::to_bits(s.residual))
 }
 
-pub fn spread(a: SpreadAnswer)
+pub fn spread<W: Write>(out: &mut W, a: SpreadAnswer) -> io::Result<()>
     requires { Plain a }
 {
     match a {
-        SpreadAnswer::Spread(s) => floats(s),
-        SpreadAnswer::Refused(n) => refused(b"spread", n),
+        SpreadAnswer::Spread(s) => floats(out, s),
+        SpreadAnswer::Refused(n) => refused(out, b"spread", n),
     }
 }
 
-fn written(w: Written) {
+fn written<W: Write>(out: &mut W, w: Written) -> io::Result<()> {
     match w {
         Written::Length(n) => {
-            text(b"write ok");
-            number(n);
+            text(out, b"write ok")?;
+            number(out, n)
         }
-        Written::Refused(n) => refused(b"write", n),
+        Written::Refused(n) => refused(out, b"write", n),
     }
 }
 
-fn hex(b: u8) {
-    io::print_hex(STDOUT_FILENO, b as u64, 2);
+fn hex<W: Write>(out: &mut W, b: u8) -> io::Result<()> {
+    write!(out, "{b:02x}")
 }
 
 // Two hexadecimal digits a byte, all behind one space; no space where there is no byte.
-pub fn write(w: Written, lent: &[u8]) {
-    written(w);
-    let mut i: usize = 0;
-    while i < lent.len() {
-        if i == 0 {
-            text(b" ");
-        }
-        hex(lent[i]);
-        i += 1;
+pub fn write<W: Write>(out: &mut W, w: Written, lent: &[u8]) -> io::Result<()> {
+    written(out, w)?;
+    if !lent.is_empty() {
+        text(out, b" ")?;
     }
+    for b in lent {
+        hex(out, *b)?;
+    }
+    Ok(())
 }
