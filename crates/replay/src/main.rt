@@ -16,9 +16,11 @@
 //    14 survivor_defaults  place, grade
 //    15 defaulted_removed  place, grade
 // Pool, shortlist and write print the whole buffer after the call, write in hexadecimal, and spread the 64 bits of each float as a number.
-// An unknown operation, an operand cut short, or a length above its limit ends the script with the line `end`.
+// An unknown operation, an operand cut short, or a length above its limit ends the script with the line `end`. The answer to a call is printed
+// before the next command is read. An error of a stream ends the program: a part of the answer may be printed then, and the desk is gone.
 #![tactic(auto)]
 
+ghost use Rattle.std.specs.Prelude.{IfOk};
 ghost use Rattle.desk.specs.Desk.{SoundDesk};
 
 mod commands;
@@ -27,34 +29,37 @@ mod script;
 use crate::commands::Ran;
 use crate::script::Command;
 use desk::Desk;
+use std::io;
+use std::io::{BufWriter, Read, Write};
 
 // Reads and runs one command.
-fn step(desk: Desk) -> Ran
+fn step<R: Read, W: Write>(input: &mut R, out: &mut W, desk: Desk) -> io::Result<Ran>
     requires { SoundDesk desk }
-    ensures { SoundDesk result.desk }
+    ensures { IfOk result (λ ran. SoundDesk ran.desk) }
 {
-    let command = script::next();
+    let command = script::next(input)?;
     match command {
-        Command::Call(call) => commands::run(desk, call),
-        Command::Finished => Ran {
+        Command::Call(call) => commands::run(input, out, desk, call),
+        Command::Finished => Ok(Ran {
             desk,
             goes_on: false,
-        },
+        }),
     }
 }
 
-// A proved loop has to end, and nothing says that a script does. So the loop counts its turns down, from a number that no script uses up.
-fn main() {
+// A proved loop has to end, and nothing says that a script does. So the loop has a number of turns, which no script uses up.
+fn main(rt: HostRuntime) -> io::Result<()> {
+    let mut input = rt.stdin();
+    let mut out = BufWriter::new(rt.alloc(), rt.stdout())?;
     let mut s = Ran {
         desk: Desk::empty(),
         goes_on: true,
     };
-    let mut turns = u64::MAX;
-    while turns > 0 {
+    for _ in 0..u64::MAX {
         if !s.goes_on {
-            return;
+            break;
         }
-        s = step(s.desk);
-        turns -= 1;
+        s = step(&mut input, &mut out, s.desk)?;
     }
+    Ok(())
 }

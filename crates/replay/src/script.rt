@@ -1,7 +1,8 @@
 // The commands of the script, as they come in.
-ghost use Rattle.std.specs.Prelude.{◌+◌, ◌<◌, ◌≤◌};
+ghost use Rattle.std.specs.Prelude.{◌+◌, ◌<◌, ◌≤◌, length, IfOk};
 
-use libc::STDIN_FILENO;
+use std::io;
+use std::io::Read;
 
 // An operation number and its operands, 0 for those that it does not have.
 #[derive(Clone, Copy)]
@@ -92,28 +93,43 @@ fn broken() -> Call {
     }
 }
 
-fn call_of(operation: u32) -> Call {
+// Reads until the buffer is full or the input ends: how many bytes stand at the start of the buffer.
+pub fn read_full<R: Read>(input: &mut R, buffer: &mut [u8]) -> io::Result<usize>
+    ensures { IfOk result (λ n. n ≤ length buffer.new) }
+{
+    let mut done: usize = 0;
+    while done < buffer.len() {
+        let got = input.read(&mut buffer[done..])?;
+        if got == 0 {
+            break;
+        }
+        done += got;
+    }
+    Ok(done)
+}
+
+fn call_of<R: Read>(input: &mut R, operation: u32) -> io::Result<Call> {
     let mut bytes = [0u8; OPERANDS];
     let size = operands_size(operation);
-    if io::read_full(STDIN_FILENO, &mut bytes[..size]) < size {
-        return broken();
+    if read_full(input, &mut bytes[..size])? < size {
+        return Ok(broken());
     }
-    Call {
+    Ok(Call {
         operation,
         first: number_at(&bytes, 0),
         second: number_at(&bytes, 4),
         third: number_at(&bytes, 8),
-    }
+    })
 }
 
-pub fn next() -> Command {
+pub fn next<R: Read>(input: &mut R) -> io::Result<Command> {
     let mut bytes = [0u8; OPERANDS];
-    let got = io::read_full(STDIN_FILENO, &mut bytes[..4]);
+    let got = read_full(input, &mut bytes[..4])?;
     if got == 0 {
-        return Command::Finished;
+        return Ok(Command::Finished);
     }
     if got < 4 {
-        return Command::Call(broken());
+        return Ok(Command::Call(broken()));
     }
-    Command::Call(call_of(number_at(&bytes, 0)))
+    Ok(Command::Call(call_of(input, number_at(&bytes, 0))?))
 }
