@@ -1,4 +1,5 @@
-// The printing program: the pooled grades and the Gini of rater 1 of the book on standard input.
+// The printing program: the pooled grades and the Gini of rater 1 of the book on standard input. Where a call that prints fails, part of its text
+// may be printed.
 #![tactic(auto)]
 
 ghost use Rattle.std.specs.Prelude.{◌≤◌};
@@ -6,67 +7,74 @@ ghost use Rattle.desk.specs.Desk.{SoundDesk};
 
 use calls::MeasuresAnswer;
 use desk::{Ack, Desk};
-use libc::STDIN_FILENO;
 use measures::SignedFraction;
 use pooling::NUMBERS;
 use print::{number, signed, text};
 use refusals::BOOK_LENGTH;
+use std::io;
+use std::io::{BufWriter, Read, Write};
 use table::{GRADES, Obligors, obligors_at};
 
 // The longest book that it takes, in bytes.
 const INPUT: usize = 8_192;
 
-fn labelled(label: &[u8], n: u64) {
-    text(label);
-    number(n);
+fn labelled<W: Write>(out: &mut W, label: &[u8], n: u64) -> io::Result<()> {
+    text(out, label)?;
+    number(out, n)
 }
 
-fn refused(n: u32) {
-    labelled(b"refused ", n as u64);
-    text(b"\n");
+fn refused<W: Write>(out: &mut W, n: u32) -> io::Result<()> {
+    labelled(out, b"refused ", n as u64)?;
+    text(out, b"\n")
 }
 
-fn grade(g: usize, defaults: u32, obligors: Obligors, band: u32) {
-    number(g as u64);
-    labelled(b" ", defaults as u64);
-    labelled(b" ", obligors.0 as u64);
-    labelled(b" ", band as u64);
-    text(b"\n");
+fn grade<W: Write>(
+    out: &mut W,
+    g: usize,
+    defaults: u32,
+    obligors: Obligors,
+    band: u32,
+) -> io::Result<()> {
+    number(out, g as u64)?;
+    labelled(out, b" ", defaults as u64)?;
+    labelled(out, b" ", obligors.0 as u64)?;
+    labelled(out, b" ", band as u64)?;
+    text(out, b"\n")
 }
 
 // A line for each grade, best first.
-fn grades(pooled: [u32; NUMBERS * GRADES], count: usize)
+fn grades<W: Write>(out: &mut W, pooled: [u32; NUMBERS * GRADES], count: usize) -> io::Result<()>
     requires { count ≤ 40 }
 {
-    let mut i: usize = 0;
-    while i < count {
+    for i in 0..count {
         grade(
+            out,
             i + 1,
             pooled[NUMBERS * i],
             obligors_at(&pooled, NUMBERS * i + 1),
             pooled[NUMBERS * i + 2],
-        );
-        i += 1;
+        )?;
     }
+    Ok(())
 }
 
-fn fraction(f: SignedFraction) {
-    signed(f.numerator);
-    labelled(b" ", f.denominator);
-    text(b"\n");
+fn fraction<W: Write>(out: &mut W, f: SignedFraction) -> io::Result<()> {
+    signed(out, f.numerator)?;
+    labelled(out, b" ", f.denominator)?;
+    text(out, b"\n")
 }
 
-fn gini(desk: Desk)
+fn gini<W: Write>(out: &mut W, desk: Desk) -> io::Result<()>
     requires { SoundDesk desk }
 {
-    text(b"gini ");
+    text(out, b"gini ")?;
     match desk.measures(1) {
-        MeasuresAnswer::Measures(m) => fraction(m.gini),
-        MeasuresAnswer::Refused(n) => refused(n),
+        MeasuresAnswer::Measures(m) => fraction(out, m.gini),
+        MeasuresAnswer::Refused(n) => refused(out, n),
     }
 }
 
-fn report(book: &[u8]) {
+fn report<W: Write>(out: &mut W, book: &[u8]) -> io::Result<()> {
     let stored = Desk::empty().load(1, book, 1);
     let desk = stored.desk;
     let ack = stored.ack;
@@ -74,19 +82,21 @@ fn report(book: &[u8]) {
         Ack::Done => {
             let mut pooled = [0u32; NUMBERS * GRADES];
             desk.pool(1, &mut pooled);
-            grades(pooled, desk.first.place.grades);
-            gini(desk);
+            grades(out, pooled, desk.first.place.grades)?;
+            gini(out, desk)
         }
-        Ack::Refused(n) => refused(n),
+        Ack::Refused(n) => refused(out, n),
     }
 }
 
-fn main() {
-    let mut input = [0u8; INPUT + 1];
-    let n = io::read_full(STDIN_FILENO, &mut input);
+fn main(rt: HostRuntime) -> io::Result<()> {
+    let mut out = BufWriter::new(rt.alloc(), rt.stdout())?;
+    let mut input = Vec::new(rt.alloc());
+    let n = rt.stdin().take(INPUT as u64 + 1).read_to_end(&mut input)?;
     if INPUT < n {
-        refused(BOOK_LENGTH);
+        refused(&mut out, BOOK_LENGTH)?;
     } else {
-        report(&input[..n]);
+        report(&mut out, &input)?;
     }
+    out.flush()
 }
