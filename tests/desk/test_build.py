@@ -21,30 +21,33 @@ sys.path.insert(0, PACKAGES)
 from desk.command import build  # noqa: E402
 from desk.version import VERSION  # noqa: E402
 
-CRATES = """# of the kit: libc and io
+CRATES = """# of the kit: json and csv
 low:
 other: low
-middle: low libc
-desk_c: low middle   # and not other
-report: middle io
+middle: low json
+desk_abi staticlib: low middle   # and not other
+report: middle csv
 """
-# The archive and the program are copies of a source of low. KIT/before and KIT/after are what a test has the stand-in do besides.
+# The archive and the program are copies of a source of low. KIT/before and KIT/after are what a test has the stand-in do besides, at the top.
 RT = """#!/bin/sh
 trap '' PIPE
 kit=$(dirname "$(dirname "$0")")
 [ "$1" != doc ] || { cat "$kit/doc"; exit; }
-echo "begin $*" >>"$kit/calls"
+crate=$(basename "$PWD")
+cd ../.. || exit 2
+echo "begin $* $crate" >>"$kit/calls"
 . "$kit/before"
-mkdir -p target/staticlib target/bin
-cp crates/low/src/lib.rt "target/staticlib/lib$2.a"
-cp crates/low/src/lib.rt target/bin/report
-chmod +x target/bin/report
+out=crates/$crate/out
+mkdir -p "$out"
+cp crates/low/src/lib.rt "$out/lib$crate.a"
+cp crates/low/src/lib.rt "$out/$crate"
+chmod +x "$out/$crate"
 . "$kit/after"
 echo "end $1" >>"$kit/calls"
-sed -n 's/^\\([a-z]*\\):.*/rt: \\1 proved (7 s)/p' crates.txt
+sed -n 's/^\\([a-z_]*\\)[ a-z]*:.*/crate \\1: modules loaded=3 checked=4\\nlogic=proved functions=5/p' crates.txt
 """
 LINKER = """#!/bin/sh
-kit=$(dirname "$0")/../../../..
+kit=$(dirname "$0")/../..
 printf '%s\\n' "$@" >"$kit/link"
 while [ $# -gt 0 ]; do
     case $1 in
@@ -92,12 +95,12 @@ class Case(unittest.TestCase):
 
     def put_repository(self) -> None:
         put(os.path.join(self.top, 'crates.txt'), CRATES)
-        for crate in ('low', 'middle', 'other', 'desk_c', 'report'):
+        for crate in ('low', 'middle', 'other', 'desk_abi', 'report'):
             for name in ('src/lib.rt', 'specs/Table.antt', 'proofs/pool/Proof.antt'):
                 put(os.path.join(self.top, 'crates', crate, name), f'{name} of {crate}\n')
 
     def put_kit(self) -> None:
-        tools = os.path.join(self.kit, 'on', os.uname().machine, 'toolchain')
+        tools = os.path.join(self.kit, 'toolchain')
         self.rt, self.linker = os.path.join(self.kit, 'bin', 'rt'), os.path.join(tools, 'bin', 'ld.lld')
         put(self.rt, RT)
         put(self.linker, LINKER)
@@ -106,7 +109,7 @@ class Case(unittest.TestCase):
             os.chmod(program, 0o755)
         for name in ('before', 'after', 'linking', 'calls'):
             put(os.path.join(self.kit, name), '')
-        put(os.path.join(self.kit, 'doc'), f'{self.kit}/docs/START-HERE.md\n')
+        put(os.path.join(self.kit, 'doc'), f'{self.kit}/START-HERE.md\n')
 
     def on_path(self, path: str) -> None:
         changed = unittest.mock.patch.dict(os.environ, PATH=path)
@@ -121,7 +124,7 @@ class Case(unittest.TestCase):
         return got(os.path.join(self.kit, 'calls')).splitlines()
 
     def builds(self) -> int:
-        return sum(call.startswith('begin staticlib') for call in self.calls())
+        return sum(call.startswith('begin lib') for call in self.calls())
 
     def use(self, product=build.shared_library) -> str:
         """Uses a product in this process, and returns what was said on standard error."""
@@ -181,7 +184,7 @@ class FirstUse(Case):
         self.use()
         self.assertEqual(self.path, self.product)
         self.assertEqual(got(self.product), got(self.source))
-        self.assertEqual(self.calls(), ['begin check low middle', 'end check', 'begin staticlib desk_c', 'end staticlib'])
+        self.assertEqual(self.calls(), ['begin lib desk_abi', 'end lib'])
 
     def test_links_what_is_to_be_called_and_no_more(self) -> None:
         self.use()
@@ -194,19 +197,26 @@ class FirstUse(Case):
     def test_says_how_far_it_is(self) -> None:
         lines = self.use().splitlines()
         self.assertRegex(lines[0], '^desk: this is the first use: the library .* some minutes, once$')
-        self.assertRegex(lines[1], r'^desk: 1 of 3 crates proved \(low, 7 s; \d+ s in all\)$')
-        self.assertRegex(lines[2], r'^desk: 2 of 3 crates proved \(middle, 7 s; \d+ s in all\)$')
-        self.assertRegex(lines[3], r'^desk: 3 of 3 crates proved \(desk_c, \d+ s; \d+ s in all\)$')
+        self.assertRegex(lines[1], r'^desk: 1 of 3 crates proved \(low, \d+ s; \d+ s in all\)$')
+        self.assertRegex(lines[2], r'^desk: 2 of 3 crates proved \(middle, \d+ s; \d+ s in all\)$')
+        self.assertRegex(lines[3], r'^desk: 3 of 3 crates proved \(desk_abi, \d+ s; \d+ s in all\)$')
         self.assertRegex(lines[4], r'^desk: the library is built \(\d+ s\)$')
         self.assertEqual(len(lines), 5)
 
-    def test_says_which_crates_are_unchanged(self) -> None:
-        self.asked('before', 'echo "rt: low proved (unchanged since it was last proved)" >&2\n')
-        self.assertIn('desk: 1 of 3 crates proved (low, unchanged; ', self.use())
+    def test_counts_crates_that_are_unchanged(self) -> None:
+        """rt says nothing of them."""
+        self.asked('after', 'echo "crate desk_abi: modules loaded=3 checked=4" >&2; echo "logic=proved functions=5"; exit\n')
+        lines = self.use().splitlines()
+        self.assertRegex(lines[1], r'^desk: 3 of 3 crates proved \(desk_abi, ')
+        self.assertEqual(len(lines), 3)
+        self.asked('after', 'exit\n')
+        put(self.source, 'changed\n')
+        self.assertIn('desk: 3 of 3 crates proved (desk_abi, ', self.use())
 
     def test_takes_whatever_rt_prints(self) -> None:
-        lines = (r'\377', 'rt:', 'rt: ', 'rt: proved (', 'rt: nobody proved (3 s)', ' rt: low proved (1 s)', r'\0', 'no end of line')
-        self.asked('before', "printf '" + r'\n'.join(lines) + "'\n")
+        lines = (r'\377', 'rt:', 'crate', 'crate : modules', 'logic=proved ', 'crate nobody: modules loaded=1 checked=2', 'logic=proved functions=3',
+                 ' crate low: modules loaded=1 checked=2', r'\0', 'no end of line')
+        self.asked('before', "printf '" + r'\n'.join(lines) + "\\n'\n")
         self.assertIn('2 of 3', self.use())
         self.assertEqual(got(self.product), got(self.source))
 
@@ -224,8 +234,8 @@ class FirstUse(Case):
         self.assertEqual(self.path, os.path.join(self.top, 'target', 'desk', 'report'))
         self.assertEqual(got(self.path), got(self.source))
         self.assertTrue(os.access(self.path, os.X_OK))
-        self.assertEqual(self.calls(), ['begin check report', 'end check'])
-        self.assertIn('desk: 3 of 3 crates proved (report, 7 s; ', said)
+        self.assertEqual(self.calls(), ['begin run report', 'end run'])
+        self.assertIn('desk: 3 of 3 crates proved (report, ', said)
         self.assertEqual(self.use(build.printing_program), '')
         self.use()
         self.assertEqual(self.builds(), 1)
@@ -295,7 +305,7 @@ class LaterUse(Case):
         self.assert_built_again()
 
     def test_changed_proof(self) -> None:
-        put(self.in_crate('desk_c', 'proofs', 'pool', 'Proof.antt'), 'changed\n')
+        put(self.in_crate('desk_abi', 'proofs', 'pool', 'Proof.antt'), 'changed\n')
         self.assert_built_again()
 
     def test_changed_list_of_crates(self) -> None:
@@ -303,9 +313,9 @@ class LaterUse(Case):
         self.assert_built_again()
 
     def test_one_more_crate(self) -> None:
-        put(os.path.join(self.top, 'crates.txt'), CRATES.replace('desk_c: low', 'desk_c: other low'))
+        put(os.path.join(self.top, 'crates.txt'), CRATES.replace('staticlib: low', 'staticlib: other low'))
         self.assert_built_again()
-        self.assertEqual(self.calls()[0], 'begin check low other middle')
+        self.assertEqual(self.calls()[0], 'begin lib desk_abi')
 
     def test_new_file(self) -> None:
         put(self.in_crate('low', 'proofs', 'band', 'Proof.antt'), '')
@@ -366,26 +376,26 @@ class Failures(Case):
         self.assertIn(text, got(log))
 
     def test_crate_not_proved(self) -> None:
-        self.asked('before', """echo 'low.rt:3:1: error: goal 7'; echo 'rt: low NOT PROVED (exit 1, 4 s)'
-                                echo 'rt: middle NOT PROVED: its dependency low is not proved'; exit 1\n""")
+        self.asked('before', """echo 'src/low.rt:3:1: note: goal 7'; echo 'fn low::pool: no proof: expected answers'
+                                echo 'fn low::bands: no proof: a call of low::pool'; echo 'logic=not-proved'
+                                echo 'rt: the library low did not build, so nothing above it was checked'; exit 1\n""")
         words = self.fails()
-        self.assertIn('the library is not built: low NOT PROVED (exit 1, 4 s).', words)
+        self.assertIn('the library is not built: low::pool is not proved.', words)
         self.assert_log_has(words, 'goal 7')
-        self.assertEqual(self.builds(), 0)
         self.assert_tried_again()
 
     def test_crate_of_the_library_not_proved(self) -> None:
-        self.asked('after', '[ "$1" = check ] || { echo "goal 8" >&2; exit 1; }\n')
+        self.asked('after', 'echo "goal 8" >&2; exit 1\n')
         words = self.fails()
-        self.assertIn('desk_c is not proved', words)
+        self.assertIn('desk_abi is not proved', words)
         self.assert_log_has(words, 'goal 8')
         self.assert_tried_again()
 
     def test_program_not_proved(self) -> None:
-        self.asked('before', "echo 'rt: report proved, and its run FAILED (0 s)'; exit 1\n")
-        self.assertIn('the printing program is not built: report proved, and its run FAILED', self.fails(build.printing_program))
+        self.asked('before', "echo 'fn report::main: no proof: expected answers'; exit 1\n")
+        self.assertIn('the printing program is not built: report::main is not proved', self.fails(build.printing_program))
         self.asked('before')
-        self.asked('after', 'rm target/bin/report\n')
+        self.asked('after', 'rm crates/report/out/report\n')
         self.assertIn('there is no', self.fails(build.printing_program))
         self.assert_none_built()
 
@@ -404,9 +414,9 @@ class Failures(Case):
         self.assert_tried_again()
 
     def test_sources_change_and_are_not_proved_then(self) -> None:
-        self.asked('after', '[ "$1" = check ] || { echo changed >>crates/low/src/lib.rt; echo "exit 1" >"$kit/before"; }\n')
+        self.asked('after', 'echo changed >>crates/low/src/lib.rt; echo "exit 1" >"$kit/before"\n')
         self.assertIn('is not proved', self.fails())
-        self.assertEqual(self.builds(), 1)
+        self.assertEqual(self.builds(), 2)
         self.assert_tried_again()
 
     def test_linker_missing(self) -> None:
@@ -477,7 +487,7 @@ class SeveralAtOnce(Case):
         self.assertEqual(got(self.product), got(self.source))
 
     def test_source_changed_during_the_build(self) -> None:
-        self.asked('after', '[ "$1" = check ] || [ -e "$kit/once" ] || { touch "$kit/once"; echo changed >crates/low/src/lib.rt; }\n')
+        self.asked('after', '[ -e "$kit/once" ] || { touch "$kit/once"; echo changed >crates/low/src/lib.rt; }\n')
         self.assertIn('changed meanwhile', self.use())
         self.assertEqual((got(self.product), self.builds()), ('changed\n', 2))
         self.assertEqual(self.use(), '')
@@ -510,10 +520,10 @@ class SeveralAtOnce(Case):
             second = self.start(stderr=file)
         self.wait_until(lambda: got(said))
         self.assertIn('waiting', got(said))
-        self.assertEqual(self.calls(), ['begin check low middle'])
+        self.assertEqual(self.calls(), ['begin lib desk_abi'])
         self.asked('go')
         self.assertEqual(self.answer(second), (f'{self.product}\n', 0))
-        self.assertEqual(self.calls()[:3], ['begin check low middle', 'end check', 'begin check low middle'])
+        self.assertEqual(self.calls()[:3], ['begin lib desk_abi', 'end lib', 'begin lib desk_abi'])
         self.assertEqual(got(self.product), got(self.source))
 
     def test_interrupt(self) -> None:
@@ -524,7 +534,7 @@ class SeveralAtOnce(Case):
         self.assertIn('KeyboardInterrupt', process.communicate(timeout=PATIENCE)[1])
         self.wait_until(self.is_free)
         self.assert_none_built()
-        self.assertEqual(self.calls(), ['begin check low middle'])
+        self.assertEqual(self.calls(), ['begin lib desk_abi'])
         self.asked('before')
         self.use()
         self.assertEqual(got(self.product), got(self.source))

@@ -98,10 +98,10 @@ class Product:
 class SharedLibrary(Product):
     """What it is linked of is kept as the archive of the same sources, so that one build does for both."""
 
-    name, crate, called = 'libdesk.so', 'desk_c', 'the library'
+    name, crate, called = 'libdesk.so', 'desk_abi', 'the library'
 
     def make(self, toolchain: Toolchain, to: str) -> None:
-        archive = archive_of(self, toolchain)
+        archive = toolchain.staticlib(self.crate)
         toolchain.link(archive, VERSION, to)
         toolchain.copy(archive, f'{to}.archive')
 
@@ -117,25 +117,17 @@ class SharedLibrary(Product):
 
 
 class Archive(Product):
-    name, crate, called = 'libdesk.a', 'desk_c', 'the archive'
+    name, crate, called = 'libdesk.a', 'desk_abi', 'the archive'
 
     def make(self, toolchain: Toolchain, to: str) -> None:
-        toolchain.copy(archive_of(self, toolchain), to)
+        toolchain.copy(toolchain.staticlib(self.crate), to)
 
 
 class PrintingProgram(Product):
     name, crate, called = 'report', 'report', 'the printing program'
 
     def make(self, toolchain: Toolchain, to: str) -> None:
-        toolchain.check([self.crate])
-        toolchain.copy(os.path.join(self.top, 'target', 'bin', self.crate), to)
-
-
-def archive_of(product: Product, toolchain: Toolchain) -> str:
-    """Proves the crate of a product and returns the path of its archive."""
-    below = [crate for crate in product.sources.crates() if crate != product.crate]
-    toolchain.check(below)  # several at a time, which `rt staticlib` does not do
-    return toolchain.staticlib(product.crate)
+        toolchain.copy(toolchain.program(self.crate), to)
 
 
 def remove(path: str) -> None:

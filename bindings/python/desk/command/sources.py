@@ -44,12 +44,13 @@ class Sources:
                         yield os.path.join(folder, name)[start:]
 
     def crates(self) -> list[str]:
-        """The crate and those that it reaches, in the order of crates.txt, which does not list the crates of the toolchain."""
+        """The crate and those that it reaches, in the order of crates.txt, which does not list the crates of the toolchain. Behind the name
+        of a crate it may say what the crate is, as `desk_abi staticlib: ..`."""
         listed = {}
         with open(os.path.join(self.top, 'crates.txt'), encoding='utf-8', errors='replace') as lines:
             for line in lines:
                 name, _, after = line.partition('#')[0].partition(':')
-                listed[name.strip()] = after.split()
+                listed[name.strip().partition(' ')[0]] = after.split()
         found, todo = set(), [self.crate]
         while todo:
             name = todo.pop()

@@ -12,8 +12,10 @@ import sys
 import time
 from typing import BinaryIO, Iterable, Iterator
 
-PROVED = re.compile(r'rt: (\w+) proved \((\d+ s|unchanged)')
-REFUSED = re.compile(r'rt: \w+ (NOT PROVED|proved, and its run FAILED)')
+CRATE = re.compile(r'crate (\w+): modules ')
+PROVED = re.compile(r'logic=proved ')  # of the crate that was named last
+REFUSED = re.compile(r'fn (\S+): no proof')
+CALLED = 'libdesk_c.a'  # what C callers call the archive, whichever crate it is made of
 EXPORTS = 'DESK_%d { global: desk_*; local: *; };\n'  # what a program linked with asks the loader for by name
 
 
@@ -41,26 +43,31 @@ def locked(path: str) -> Iterator[int]:
 
 
 class Progress:
-    """Says once of each crate that it is proved, and keeps the first line in which rt says that one is not."""
+    """Says once of each crate that it is proved, and keeps the first function of which rt says that it is not. Of a crate that rt finds
+    unchanged it says nothing: it counts as proved once a crate above it is, at the latest the one that is made, `top`."""
 
     def __init__(self, crates: Iterable[str]) -> None:
         self.crates, self.proved, self.refusal = set(crates), set(), ''
-        self.start = time.monotonic()
+        self.top = self.named = ''
+        self.start = self.since = time.monotonic()
 
     def seconds(self) -> int:
         return round(time.monotonic() - self.start)
 
     def read(self, line: str) -> None:
-        found = PROVED.match(line)
+        found, refused = CRATE.match(line), REFUSED.match(line)
         if found:
-            self.add(found[1], found[2])
-        elif REFUSED.match(line) and not self.refusal:
-            self.refusal = line[len('rt: '):].strip()
+            self.named = found[1]
+        elif PROVED.match(line):
+            self.add(self.named)
+        elif refused and not self.refusal:
+            self.refusal = f'{refused[1]} is not proved'
 
-    def add(self, crate: str, took: str) -> None:
+    def add(self, crate: str) -> None:
         if crate in self.crates - self.proved:
-            self.proved.add(crate)
-            say(f'{len(self.proved)} of {len(self.crates)} crates proved ({crate}, {took}; {self.seconds()} s in all)')
+            took, self.since = round(time.monotonic() - self.since), time.monotonic()
+            self.proved |= self.crates if crate == self.top else {crate}
+            say(f'{len(self.proved)} of {len(self.crates)} crates proved ({crate}, {took} s; {self.seconds()} s in all)')
 
 
 class Toolchain:
@@ -73,26 +80,25 @@ class Toolchain:
         self.rt = os.path.abspath(found)
         self.top, self.lock, self.log, self.progress = top, lock, log, Progress(crates)
 
-    def check(self, crates: list[str]) -> None:
-        if crates:  # rt takes none for all
-            self.prove('check', *crates)
-
     def staticlib(self, crate: str) -> str:
-        """Proves a crate and returns the path of its archive."""
-        before = self.progress.seconds()
-        self.prove('staticlib', crate)
-        self.progress.add(crate, f'{self.progress.seconds() - before} s')
-        return os.path.join(self.top, 'target', 'staticlib', f'lib{crate}.a')
+        """Proves a crate and those below it, and returns the path of its archive, under the name that C callers know."""
+        made = self.prove('lib', crate, f'lib{crate}.a')
+        archive = os.path.join(self.top, 'target', 'staticlib', CALLED)
+        os.makedirs(os.path.dirname(archive), exist_ok=True)
+        self.copy(made, archive)
+        return archive
+
+    def program(self, crate: str) -> str:
+        """Proves a crate and those below it, and returns the path of its program, which rt runs once, on no input."""
+        return self.prove('run', crate, crate)
 
     def copy(self, made: str, to: str) -> None:
         """Copies what rt has made."""
-        if not os.path.isfile(made):
-            raise Failed(f'rt calls {os.path.basename(made)} proved, but there is no {made}. Remove the folder target and try again')
         shutil.copy(made, to)
 
     def link(self, archive: str, version: int, to: str) -> None:
         """Makes a shared library of an archive, with the functions desk_* alone to call from outside. It needs no C compiler."""
-        tools = os.path.join(self.kit(), 'on', os.uname().machine, 'toolchain')
+        tools = os.path.join(self.kit(), 'toolchain')
         linker, libc = os.path.join(tools, 'bin', 'ld.lld'), os.path.join(tools, 'lib', 'libc.so.6')
         for path in (linker, libc):
             if not os.path.isfile(path):
@@ -111,20 +117,28 @@ class Toolchain:
             raise Failed(f'the linker ended with status {status}. All that it said is in {self.log.name}')
 
     def kit(self) -> str:
-        """The folder of the kit: two above the guide that rt names."""
+        """The folder of the kit: that of the guide that rt names."""
         said = subprocess.run([self.rt, 'doc'], stdin=subprocess.DEVNULL, stdout=subprocess.PIPE, stderr=self.log, check=False).stdout
-        return os.path.dirname(os.path.dirname(os.fsdecode(said.strip())))
+        return os.path.dirname(os.fsdecode(said.strip()))
 
-    def prove(self, command: str, *crates: str) -> None:
-        status = self.run([self.rt, command, *crates])
+    def prove(self, command: str, crate: str, name: str) -> str:
+        """Has rt make the file of this name in a crate's folder out/, and returns its path."""
+        folder = os.path.join(self.top, 'crates', crate)
+        self.progress.top = crate
+        status = self.run([self.rt, command], folder)
         if status:
-            ended = f'{crates[-1]} is not proved' if status in (1, 3) else f'rt {command} ended with status {status}'
+            ended = f'{crate} is not proved' if status in (1, 3) else f'rt {command} ended with status {status}'
             raise Failed(f'{self.progress.refusal or ended}. All that rt said is in {self.log.name}')
+        self.progress.add(crate)
+        made = os.path.join(folder, 'out', name)
+        if not os.path.isfile(made):
+            raise Failed(f'rt calls {crate} proved, but there is no {made}. Remove the folder {os.path.dirname(made)} and try again')
+        return made
 
-    def run(self, words: list[str]) -> int:
-        """Runs a program and returns its status. It has the lock too, which so holds as long as it runs, whatever ends this process.
-        It has a group of its own, so that an interrupt ends all of it: what a shell runs in the background ignores Ctrl-C."""
-        with subprocess.Popen(words, cwd=self.top, stdin=subprocess.DEVNULL, stdout=subprocess.PIPE, stderr=subprocess.STDOUT,
+    def run(self, words: list[str], folder: str | None = None) -> int:
+        """Runs a program, at the top or in a folder, and returns its status. It has the lock too, which so holds as long as it runs, whatever
+        ends this process. It has a group of its own, so that an interrupt ends all of it: what a shell runs in the background ignores Ctrl-C."""
+        with subprocess.Popen(words, cwd=folder or self.top, stdin=subprocess.DEVNULL, stdout=subprocess.PIPE, stderr=subprocess.STDOUT,
                               pass_fds=(self.lock,), start_new_session=True) as process:
             try:
                 for line in process.stdout:
