@@ -1,6 +1,6 @@
 /* Compares credit rating scales: which of two over the same obligors is better, whatever prices are put on the mistakes, which of
  * two over different books, by shares of their own defaults and survivors, and which of all raters of a book no other one beats.
- * C11 or C++11, or later, on x86-64. Link with libdesk_c.a, which `rt staticlib desk_c` writes; where installed, with -ldesk.
+ * C11 or C++11, or later, on x86-64. Link with libdesk_c.a, which `tools/staticlib` writes; where installed, with -ldesk.
  *
  * TERMS. A rating scale sorts its obligors into grades, best first. Of a grade's n obligors d defaulted and s = n - d survived;
  * its announced rate is the default rate that the rater states for it, in ppm (millionths: 0.5% is 5000). A grade table has

@@ -7,7 +7,7 @@ use std::iter::once_with;
 use std::path::{Path, PathBuf, absolute};
 use std::process::Command;
 
-/// What the library is called where it is installed, and where `rt staticlib desk_c` writes it.
+/// What the library is called where it is installed, and where `tools/staticlib` writes it.
 const INSTALLED: &str = "desk";
 const BUILT: &str = "desk_c";
 /// The library has a function of this name, with its version behind.
@@ -180,7 +180,7 @@ fn nowhere(here: &Path) -> String {
     format!(
         "the library desk was not found: DESK_LIB_DIR is unset or empty, it is not at {places}, and \
          `pkg-config --variable=libdir desk` names no directory that holds libdesk.a; install it with \
-         `./install PREFIX`, write it with `rt staticlib desk_c`, or name the directory that holds it, \
+         `./install PREFIX`, write it with `tools/staticlib`, or name the directory that holds it, \
          by an absolute path, in DESK_LIB_DIR"
     )
 }

@@ -23,7 +23,7 @@ def read(*names: str) -> bytes:
 
 
 def copy_repository(to: str, *built: str) -> None:
-    """Copies what git tracks, and these parts of target/ where they are there."""
+    """Copies what git tracks, and these parts of target/ where they are there. What rt has proved here it need not prove again there."""
     tracked = subprocess.run(['git', '-C', TOP, 'ls-files', '-z'], stdout=subprocess.PIPE, check=True).stdout
     for name in map(os.fsdecode, tracked.rstrip(b'\0').split(b'\0')):
         os.makedirs(os.path.dirname(os.path.join(to, name)), exist_ok=True)

@@ -1,6 +1,6 @@
 """Uses ./desk for the first time, and later, in a copy of this repository with the toolchain that is here; without `rt` it is passed over.
 
-What target/ holds of proved crates is copied too, so that they are not proved again.
+What rt keeps of crates that are proved here it takes there too, so that they are not proved again.
 
     python3 tests/desk/test_first_use.py      # from anywhere
 """
@@ -26,7 +26,7 @@ class FirstUse(unittest.TestCase):
         self.addCleanup(folder.cleanup)
         self.folder = folder.name
         self.top = os.path.join(self.folder, 'repository')
-        copy_repository(self.top, 'rlib', 'stamp')
+        copy_repository(self.top)
         self.alone = os.path.join(self.folder, 'bin')  # a PATH with Python and nothing else
         os.mkdir(self.alone)
         os.symlink(sys.executable, os.path.join(self.alone, 'python3'))

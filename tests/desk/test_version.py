@@ -24,6 +24,7 @@ LOCKED = 'name = "desk"\nversion = "%d.0.0"'
 # Where the number stands, and how.
 PLACES = [('include/desk.h', 'DESK_VERSION %d\n'), ('crates/desk_c/specs/Version.antt', 'version = %d\n'),
           ('crates/desk_c/src/lib.rt', 'VERSION: u32 = %d;'), ('crates/desk_c/src/lib.rt', 'is_version_%d('),
+          ('crates/desk_abi/src/lib.rt', 'is_version_%d('),
           ('crates/desk_c/must-fail/slips_3.edit', 'is_version_%d\n'), ('docs/CLAIMS.md', 'is_version_%d`'),
           ('bindings/rust/Cargo.toml', '"%d.0.0"'), ('bindings/rust/Cargo.lock', LOCKED), ('bindings/rust-tests/Cargo.lock', LOCKED),
           ('bench/Cargo.lock', LOCKED), ('bindings/python/desk/version.py', 'VERSION = %d\n'), ('CHANGELOG.md', '\n## %d\n'),
