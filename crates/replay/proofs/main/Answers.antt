@@ -1,0 +1,6 @@
+-- A fresh desk is sound.
+use Rattle.desk.proofs.Soundness.{fresh_sound}
+use Rattle.replay.proofs.main.Goals as goal
+
+pub loop-init : goal.loop-init
+loop-init c = rw c.empty.ensures fresh_sound
