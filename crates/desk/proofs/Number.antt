@@ -38,12 +38,12 @@ number i =
 -- What the code found of the number i: b says whether there is such a place.
 
 pub there : (i : ℕ) (b : Bool) → b ≡ eqb (place_fault i) 0 → not b ≡ false → place_fault i ≡ 0
-there i b e h = eqb-true (place_fault i) 0 (sym e ∙ not-false b h)
+there i b e h = eqb-true (place_fault i) 0 (sym e ∙ b h)
 
 missing_at : {i : ℕ} → Number i → (b : Bool) → b ≡ eqb (place_fault i) 0 → not b ≡ true → 1 ≡ place_fault i
 unfolding fault
-missing_at one b e h = let z : ◌≡◌ {A = ℕ} 0 1 = cc (e, not-true b h) in absurd (omega arith)
-missing_at two b e h = let z : ◌≡◌ {A = ℕ} 0 1 = cc (e, not-true b h) in absurd (omega arith)
+missing_at one b e h = let z : ◌≡◌ {A = ℕ} 0 1 = cc (e, b h) in absurd (omega arith)
+missing_at two b e h = let z : ◌≡◌ {A = ℕ} 0 1 = cc (e, b h) in absurd (omega arith)
 missing_at (neither _ _ k) b e h = sym k
 
 -- 1, before every other check

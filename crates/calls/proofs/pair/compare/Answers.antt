@@ -38,7 +38,7 @@ returns-then-a-b c =
           (⊎_elim
           (λ w. other (λ e. w.taken (s.answered.defaults ∙ e ∙ sym t.answered.defaults)))
           (λ w. same (sym s.answered.defaults ∙ w.0.left ∙ t.answered.defaults)
-          (other (λ e. eqb-false a.survivors.0 b.survivors.0 (not-true _ w.3.taken) (s.answered.survivors ∙ e ∙ sym t.answered.survivors))))
+          (other (λ e. eqb-false a.survivors.0 b.survivors.0 w.3.taken (s.answered.survivors ∙ e ∙ sym t.answered.survivors))))
           c.then-a-b.branch),
       λ z. omega arith,
     )
@@ -50,7 +50,7 @@ judge-requires c =
     let taken : Taken c.args.first.now a × Taken c.args.second.now b = pair_taken _ _ _ c.both_totals-pair.ensures c.requires.0 c.requires.1 c.pair-1.given.1 in
     let alike : (defaults_in (table_in c.args.first.now) ≡ defaults_in (table_in c.args.second.now)) × (survivors_in (table_in c.args.first.now) ≡ survivors_in (table_in c.args.second.now)) = let (s, t) = taken in (
       sym s.answered.defaults ∙ c.if-a-b.false ∙ t.answered.defaults,
-      sym s.answered.survivors ∙ eqb-true a.survivors.0 b.survivors.0 (not-false _ c.if-a-b-2.false) ∙ t.answered.survivors,
+      sym s.answered.survivors ∙ eqb-true a.survivors.0 b.survivors.0 c.if-a-b-2.false ∙ t.answered.survivors,
     ) in
     let (s, t) = taken in ((s.answered.ready.holds, t.answered.ready.holds), alike)
 
@@ -62,7 +62,7 @@ returns c =
     let taken : Taken c.args.first.now a × Taken c.args.second.now b = pair_taken _ _ _ c.both_totals-pair.ensures c.requires.0 c.requires.1 c.pair-1.given.1 in
     let alike : (defaults_in (table_in c.args.first.now) ≡ defaults_in (table_in c.args.second.now)) × (survivors_in (table_in c.args.first.now) ≡ survivors_in (table_in c.args.second.now)) = let (s, t) = taken in (
       sym s.answered.defaults ∙ c.if-a-b.false ∙ t.answered.defaults,
-      sym s.answered.survivors ∙ eqb-true a.survivors.0 b.survivors.0 (not-false _ c.if-a-b-2.false) ∙ t.answered.survivors,
+      sym s.answered.survivors ∙ eqb-true a.survivors.0 b.survivors.0 c.if-a-b-2.false ∙ t.answered.survivors,
     ) in
     let (s, t) = taken in
     let e = alike in
