@@ -1,7 +1,7 @@
 -- What the first check of a call on a lent place tells: the place is empty, and 22 is the answer, or it holds a table.
 use Prim.Native.Nat.{ℕ}
 use mathlib.Core.Path.{◌≡◌, refl, sym}
-use mathlib.Core.Bool.{Bool, true, false, not, cond}
+use mathlib.Core.Bool.{Bool, true, false, cond}
 use mathlib.Core.List.{List}
 use native.Mathlib.Omega.{arith}
 use Rattle.table.specs.declared.Place.{Place}
@@ -15,11 +15,11 @@ use Rattle.calls.specs.Calls.{empty_fault, Question, question_checks, question_f
 use Rattle.calls.proofs.Answered.{refuses}
 
 -- l is whether it is loaded, b what the code found.
-pub empty_at : (l b : Bool) → b ≡ l → not b ≡ true → ◌≡◌ {A = ℕ} 22 (cond l 0 22)
+pub empty_at : (l b : Bool) → b ≡ l → b ≡ false → ◌≡◌ {A = ℕ} 22 (cond l 0 22)
 empty_at l true e h = let z : ◌≡◌ {A = ℕ} 0 1 = cc in absurd (omega arith)
 empty_at l false e h = rw (← e) refl
 
-pub loaded_at : (l b : Bool) → b ≡ l → not b ≡ false → ◌≡◌ {A = ℕ} 0 (cond l 0 22)
+pub loaded_at : (l b : Bool) → b ≡ l → b ≡ true → ◌≡◌ {A = ℕ} 0 (cond l 0 22)
 loaded_at l true e h = rw (← e) refl
 loaded_at l false e h = let z : ◌≡◌ {A = ℕ} 0 1 = cc in absurd (omega arith)
 
@@ -29,7 +29,7 @@ is-loaded true e = refl
 is-loaded false e = absurd (omega arith)
 
 -- A question of an empty place.
-pub asked_empty : {A : Type 0} (p : Place) (q : Question) (x : A) (b : Bool) → b ≡ p.loaded → not b ≡ true
+pub asked_empty : {A : Type 0} (p : Place) (q : Question) (x : A) (b : Bool) → b ≡ p.loaded → b ≡ false
     → refused 22 ≡ answer (question_fault p q) x
 unfolding question_fault
 asked_empty p q x b e h = refuses 22 x (stop _ (empty_at p.loaded b e h) (λ z. omega arith)) (λ z. omega arith)
@@ -39,7 +39,7 @@ pub record Ready (w : List ℕ) : Type 0 where
   pub loaded : empty_fault (place_in w) ≡ 0
   pub holds : HoldsTable w
 
-pub ready : {w : List ℕ} (b : Bool) → IsPlace w → b ≡ (place_in w).loaded → not b ≡ false → Ready w
+pub ready : {w : List ℕ} (b : Bool) → IsPlace w → b ≡ (place_in w).loaded → b ≡ true → Ready w
 ready true i e h = record { loaded = rw (← e) refl; holds = holds-table i (sym e) }
 ready false i e h = let z : ◌≡◌ {A = ℕ} 0 1 = cc in absurd (omega arith)
 
@@ -48,7 +48,7 @@ pub record ReadyPooled (w : List ℕ) : Type 0 where
   pub loaded : empty_fault (place_in w) ≡ 0
   pub holds : HoldsPooledTable w
 
-pub ready_pooled : {w : List ℕ} (b : Bool) → IsPooledPlace w → b ≡ (place_in w).loaded → not b ≡ false → ReadyPooled w
+pub ready_pooled : {w : List ℕ} (b : Bool) → IsPooledPlace w → b ≡ (place_in w).loaded → b ≡ true → ReadyPooled w
 ready_pooled true i e h = record { loaded = rw (← e) refl; holds = holds_pooled i (sym e) }
 ready_pooled false i e h = let z : ◌≡◌ {A = ℕ} 0 1 = cc in absurd (omega arith)
 
