@@ -35,7 +35,8 @@ choice : (u v : ℕ) (w : List ℕ) (i : ℕ) (passed : Survivors) (cutoff cost 
     → s ≡ passed.0 + survivors (grade_at p (i - 1))
     → Choice u v p p.grades (i - 1) s (grade_at p (i - 1)).defaults cutoff cost
 unfolding defaults_in survivors_in obligors_in
-choice u v w i passed cutoff cost s prices pos f kept e =    let p = place_in w in
+choice u v w i passed cutoff cost s prices pos f kept e =
+    let p = place_in w in
     let r = grade_at p (i - 1) in
     let t = suffix p i in
     let total : survivors_in (r ∷ t) ≡ s = omega arith in
@@ -56,8 +57,12 @@ choice u v w i passed cutoff cost s prices pos f kept e =    let p = place_in w 
       accepted = λ h. rw f.down (sym (rw (same, cheapest_cost) at (cheapest_accepts r t u v (rw (total, same, cheapest_cost) h))));
     }
 
-pub grades_of-grades-requires : goal.grades_of-grades-requires
-grades_of-grades-requires c = c.requires.holds_table.long
+-- A turn, with what the code has read: k is the count of grades.
+chosen : {u v : ℕ} {w : List ℕ} {i : ℕ} {passed : Survivors} {cutoff cost : ℕ} → (u ≤ 1_000_000) × (v ≤ 1_000_000) → 0 < i → Turn w i
+    → Swept u v (place_in w) i passed cutoff cost → (k s : ℕ) → k ≡ (place_in w).grades
+    → s ≡ passed.0 + survivors (grade_at (place_in w) (i - 1)) → Choice u v (place_in w) k (i - 1) s (get_or w (40 + (i - 1)) 0) cutoff cost
+chosen {u} {v} {w} {i} {passed} {cutoff} {cost} prices pos f kept k s grades e =
+    rw (grades, f.defaults) (choice u v w i passed cutoff cost s prices pos f kept e)
 
 pub loop-i-init : goal.loop-i-init
 unfolding survivors_in
@@ -66,109 +71,77 @@ loop-i-init c =
     let none = suffix_end p c.grades_of-grades.result (omega (arith, c.grades_of-grades.ensures)) in
     record { inside = omega (arith, c.grades_of-grades.ensures); all_passed = rw none; cheapest = rw (none, cheapest_none) }
 
-pub overflow_add-d : goal.overflow_add-d
-overflow_add-d c =
-    let at : Turn c.args.place.now c.loop-i.i = turn _ _ c.requires.holds_table c.loop-i-test.true c.loop-i.invariant.inside in
-    let f = at in omega arith
-
-pub offset_bounds-place-i : goal.offset_bounds-place-i
-offset_bounds-place-i c =
-    let at : Turn c.args.place.now c.loop-i.i = turn _ _ c.requires.holds_table c.loop-i-test.true c.loop-i.invariant.inside in
-    let f = at in omega arith
-
 pub bounds-place-i : goal.bounds-place-i
 bounds-place-i c =
-    let at : Turn c.args.place.now c.loop-i.i = turn _ _ c.requires.holds_table c.loop-i-test.true c.loop-i.invariant.inside in
-    let f = at in omega arith
+    let f = turn _ _ c.requires.holds_table c.loop-i-test.true c.loop-i.invariant.inside in
+    omega arith
 
 pub obligors_at-requires : goal.obligors_at-requires
 obligors_at-requires c =
-    let at : Turn c.args.place.now c.loop-i.i = turn _ _ c.requires.holds_table c.loop-i-test.true c.loop-i.invariant.inside in
-    let f = at in omega arith
+    let f = turn _ _ c.requires.holds_table c.loop-i-test.true c.loop-i.invariant.inside in
+    omega arith
 
 pub survivors-requires : goal.survivors-requires
 survivors-requires c =
-    let at : Turn c.args.place.now c.loop-i.i = turn _ _ c.requires.holds_table c.loop-i-test.true c.loop-i.invariant.inside in
-    let f = at in omega (arith, c.obligors_at.ensures)
+    let f = turn _ _ c.requires.holds_table c.loop-i-test.true c.loop-i.invariant.inside in
+    omega (arith, c.obligors_at.ensures)
 
 pub plus-passed-requires : goal.plus-passed-requires
 unfolding survivors_in obligors_in
 plus-passed-requires c =
-    let at : Turn c.args.place.now c.loop-i.i = turn _ _ c.requires.holds_table c.loop-i-test.true c.loop-i.invariant.inside in
-    let f = at in omega (arith, c.obligors_at.ensures, c.survivors.ensures)
+    let f = turn _ _ c.requires.holds_table c.loop-i-test.true c.loop-i.invariant.inside in
+    omega (arith, c.obligors_at.ensures, c.survivors.ensures)
 
 pub overflow_cast-away-in-loop-i : goal.overflow_cast-away-in-loop-i
 overflow_cast-away-in-loop-i c =
-    let at : Turn c.args.place.now c.loop-i.i = turn _ _ c.requires.holds_table c.loop-i-test.true c.loop-i.invariant.inside in
-    let chosen : let w = c.args.place.now in let i = c.loop-i.i - 1 in Choice c.args.u c.args.v (place_in w) c.grades_of-grades.result i c.plus-passed.result.0 (get_or w (40 + i) 0) c.loop-i.cutoff c.loop-i.cost = let f = at in
-    rw (c.grades_of-grades.ensures, f.defaults)
-    (choice _ _ _ _ c.loop-i.passed _ _ _ c.requires.prices c.loop-i-test.true f c.loop-i.invariant
-    (omega (arith, c.plus-passed.ensures, c.survivors.ensures, c.obligors_at.ensures))) in
-    let f = chosen in omega arith
+    let t = turn _ _ c.requires.holds_table c.loop-i-test.true c.loop-i.invariant.inside in
+    let f = chosen c.requires.prices c.loop-i-test.true t c.loop-i.invariant _ c.plus-passed.result.0 c.grades_of-grades.ensures
+    (omega (arith, c.plus-passed.ensures, c.survivors.ensures, c.obligors_at.ensures)) in
+    omega arith
 
 pub overflow_mul-away : goal.overflow_mul-away
 overflow_mul-away c =
-    let at : Turn c.args.place.now c.loop-i.i = turn _ _ c.requires.holds_table c.loop-i-test.true c.loop-i.invariant.inside in
-    let chosen : let w = c.args.place.now in let i = c.loop-i.i - 1 in Choice c.args.u c.args.v (place_in w) c.grades_of-grades.result i c.plus-passed.result.0 (get_or w (40 + i) 0) c.loop-i.cutoff c.loop-i.cost = let f = at in
-    rw (c.grades_of-grades.ensures, f.defaults)
-    (choice _ _ _ _ c.loop-i.passed _ _ _ c.requires.prices c.loop-i-test.true f c.loop-i.invariant
-    (omega (arith, c.plus-passed.ensures, c.survivors.ensures, c.obligors_at.ensures))) in
-    let f = chosen in omega arith
+    let t = turn _ _ c.requires.holds_table c.loop-i-test.true c.loop-i.invariant.inside in
+    let f = chosen c.requires.prices c.loop-i-test.true t c.loop-i.invariant _ c.plus-passed.result.0 c.grades_of-grades.ensures
+    (omega (arith, c.plus-passed.ensures, c.survivors.ensures, c.obligors_at.ensures)) in
+    omega arith
 
 pub overflow_cast-accepted-in-loop-i : goal.overflow_cast-accepted-in-loop-i
 overflow_cast-accepted-in-loop-i c =
-    let at : Turn c.args.place.now c.loop-i.i = turn _ _ c.requires.holds_table c.loop-i-test.true c.loop-i.invariant.inside in
-    let chosen : let w = c.args.place.now in let i = c.loop-i.i - 1 in Choice c.args.u c.args.v (place_in w) c.grades_of-grades.result i c.plus-passed.result.0 (get_or w (40 + i) 0) c.loop-i.cutoff c.loop-i.cost = let f = at in
-    rw (c.grades_of-grades.ensures, f.defaults)
-    (choice _ _ _ _ c.loop-i.passed _ _ _ c.requires.prices c.loop-i-test.true f c.loop-i.invariant
-    (omega (arith, c.plus-passed.ensures, c.survivors.ensures, c.obligors_at.ensures))) in
-    let f = chosen in omega arith
+    let t = turn _ _ c.requires.holds_table c.loop-i-test.true c.loop-i.invariant.inside in
+    let f = chosen c.requires.prices c.loop-i-test.true t c.loop-i.invariant _ c.plus-passed.result.0 c.grades_of-grades.ensures
+    (omega (arith, c.plus-passed.ensures, c.survivors.ensures, c.obligors_at.ensures)) in
+    omega arith
 
 pub overflow_mul-accepted : goal.overflow_mul-accepted
 overflow_mul-accepted c =
-    let at : Turn c.args.place.now c.loop-i.i = turn _ _ c.requires.holds_table c.loop-i-test.true c.loop-i.invariant.inside in
-    let chosen : let w = c.args.place.now in let i = c.loop-i.i - 1 in Choice c.args.u c.args.v (place_in w) c.grades_of-grades.result i c.plus-passed.result.0 (get_or w (40 + i) 0) c.loop-i.cutoff c.loop-i.cost = let f = at in
-    rw (c.grades_of-grades.ensures, f.defaults)
-    (choice _ _ _ _ c.loop-i.passed _ _ _ c.requires.prices c.loop-i-test.true f c.loop-i.invariant
-    (omega (arith, c.plus-passed.ensures, c.survivors.ensures, c.obligors_at.ensures))) in
-    let f = chosen in omega arith
+    let t = turn _ _ c.requires.holds_table c.loop-i-test.true c.loop-i.invariant.inside in
+    let f = chosen c.requires.prices c.loop-i-test.true t c.loop-i.invariant _ c.plus-passed.result.0 c.grades_of-grades.ensures
+    (omega (arith, c.plus-passed.ensures, c.survivors.ensures, c.obligors_at.ensures)) in
+    omega arith
 
 pub overflow_add-accepted : goal.overflow_add-accepted
 overflow_add-accepted c =
-    let at : Turn c.args.place.now c.loop-i.i = turn _ _ c.requires.holds_table c.loop-i-test.true c.loop-i.invariant.inside in
-    let chosen : let w = c.args.place.now in let i = c.loop-i.i - 1 in Choice c.args.u c.args.v (place_in w) c.grades_of-grades.result i c.plus-passed.result.0 (get_or w (40 + i) 0) c.loop-i.cutoff c.loop-i.cost = let f = at in
-    rw (c.grades_of-grades.ensures, f.defaults)
-    (choice _ _ _ _ c.loop-i.passed _ _ _ c.requires.prices c.loop-i-test.true f c.loop-i.invariant
-    (omega (arith, c.plus-passed.ensures, c.survivors.ensures, c.obligors_at.ensures))) in
-    let f = chosen in omega arith
-
-pub overflow_cast-cutoff : goal.overflow_cast-cutoff
-overflow_cast-cutoff c =
-    let at : Turn c.args.place.now c.loop-i.i = turn _ _ c.requires.holds_table c.loop-i-test.true c.loop-i.invariant.inside in
-    let f = at in omega arith
+    let t = turn _ _ c.requires.holds_table c.loop-i-test.true c.loop-i.invariant.inside in
+    let f = chosen c.requires.prices c.loop-i-test.true t c.loop-i.invariant _ c.plus-passed.result.0 c.grades_of-grades.ensures
+    (omega (arith, c.plus-passed.ensures, c.survivors.ensures, c.obligors_at.ensures)) in
+    omega arith
 
 pub loop-i-preserved-then-away-accepted : goal.loop-i-preserved-then-away-accepted
 loop-i-preserved-then-away-accepted c =
-    let at : Turn c.args.place.now c.loop-i.i = turn _ _ c.requires.holds_table c.loop-i-test.true c.loop-i.invariant.inside in
-    let chosen : let w = c.args.place.now in let i = c.loop-i.i - 1 in Choice c.args.u c.args.v (place_in w) c.grades_of-grades.result i c.plus-passed.result.0 (get_or w (40 + i) 0) c.loop-i.cutoff c.loop-i.cost = let f = at in
-    rw (c.grades_of-grades.ensures, f.defaults)
-    (choice _ _ _ _ c.loop-i.passed _ _ _ c.requires.prices c.loop-i-test.true f c.loop-i.invariant
-    (omega (arith, c.plus-passed.ensures, c.survivors.ensures, c.obligors_at.ensures))) in
-    let f = chosen in
+    let t = turn _ _ c.requires.holds_table c.loop-i-test.true c.loop-i.invariant.inside in
+    let f = chosen c.requires.prices c.loop-i-test.true t c.loop-i.invariant _ c.plus-passed.result.0 c.grades_of-grades.ensures
+    (omega (arith, c.plus-passed.ensures, c.survivors.ensures, c.obligors_at.ensures)) in
     record { inside = search rules; all_passed = f.passed; cheapest = f.away c.if-away-accepted.true }
 
 pub loop-i-preserved : goal.loop-i-preserved
 loop-i-preserved c =
-    let at : Turn c.args.place.now c.loop-i.i = turn _ _ c.requires.holds_table c.loop-i-test.true c.loop-i.invariant.inside in
-    let chosen : let w = c.args.place.now in let i = c.loop-i.i - 1 in Choice c.args.u c.args.v (place_in w) c.grades_of-grades.result i c.plus-passed.result.0 (get_or w (40 + i) 0) c.loop-i.cutoff c.loop-i.cost = let f = at in
-    rw (c.grades_of-grades.ensures, f.defaults)
-    (choice _ _ _ _ c.loop-i.passed _ _ _ c.requires.prices c.loop-i-test.true f c.loop-i.invariant
-    (omega (arith, c.plus-passed.ensures, c.survivors.ensures, c.obligors_at.ensures))) in
-    let f = chosen in
+    let t = turn _ _ c.requires.holds_table c.loop-i-test.true c.loop-i.invariant.inside in
+    let f = chosen c.requires.prices c.loop-i-test.true t c.loop-i.invariant _ c.plus-passed.result.0 c.grades_of-grades.ensures
+    (omega (arith, c.plus-passed.ensures, c.survivors.ensures, c.obligors_at.ensures)) in
     record { inside = search rules; all_passed = f.passed; cheapest = f.accepted c.if-away-accepted.false }
 
 pub returns : goal.returns
 returns c =
-    let at : Turn c.args.place.now c.loop-i.i = turn _ _ c.requires.holds_table c.loop-i-test.true c.loop-i.invariant.inside in
     let e : c.loop-i.i ≡ 0 = omega arith in
     rw suffix_all at c.loop-i.invariant.cheapest

@@ -1,20 +1,12 @@
 -- `cheapest` meets its contract. The invariant: what the loop keeps is the cheapest cutoff of the grades from grade i on.
-use Prim.Native.Nat.{ℕ, ◌+◌, ◌-◌, ◌*◌, ◌≤◌, ◌<◌}
-use mathlib.Core.Path.{◌≡◌, sym}
-use mathlib.Core.List.{List, ◌∷◌}
-use native.Mathlib.Omega.{arith}
-use borrow.Author.Rules.{rules}
-use lib.ListN.{length, get_or}
+use Prim.Native.Nat.{ℕ, ◌≤◌}
+use mathlib.Core.Path.{◌≡◌}
 use Rattle.table.specs.declared.Place.{Place}
 use Rattle.table.specs.declared.Survivors.{Survivors}
-use Rattle.table.specs.Table.{survivors, defaults_in, survivors_in, obligors_in}
-use Rattle.table.specs.Place.{grade_at}
+use Rattle.table.specs.Table.{survivors_in}
 use Rattle.table.specs.Words.{place_in}
-use Rattle.table.proofs.Arithmetic.{counts_le}
-use Rattle.table.proofs.Suffix.{suffix, suffix_all, suffix_end, length_grades}
-use Rattle.table.proofs.Words.{Turn, turn}
+use Rattle.table.proofs.Suffix.{suffix}
 use Rattle.cutoff.specs.Cutoff.{cheapest_of}
-use Rattle.cutoff.proofs.Cost.{cost_le_all, cheapest_cost, cheapest_none, cheapest_away, cheapest_accepts}
 use Rattle.cutoff.proofs.cheapest.Given as goal
 
 pub record Swept (u v : ℕ) (p : Place) (i : ℕ) (passed : Survivors) (cutoff cost : ℕ) : Type 0 where

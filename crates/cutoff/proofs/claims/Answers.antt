@@ -8,11 +8,11 @@ use Rattle.cutoff.proofs.claims.Goals as goal
 pub returns : goal.returns
 returns c =
     record {
-  cheapest_is_cheapest = cheapest_is;
-  cutoff_has_the_cost = cutoff_costs;
-  no_smaller_cutoff_is_as_cheap = smaller_dearer;
-  cheapest_cost_is_unique = cheapest_unique;
-  pooled_scale_costs_the_same = pooled_costs_same;
-  break_even_prices_decide = break_even_decides;
-  verdicts_are_right = settles;
-}
+      cheapest_is_cheapest = cheapest_is;
+      cutoff_has_the_cost = cutoff_costs;
+      no_smaller_cutoff_is_as_cheap = smaller_dearer;
+      cheapest_cost_is_unique = cheapest_unique;
+      pooled_scale_costs_the_same = pooled_costs_same;
+      break_even_prices_decide = break_even_decides;
+      verdicts_are_right = settles;
+    }

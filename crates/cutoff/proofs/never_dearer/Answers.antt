@@ -1,10 +1,8 @@
 -- `never_dearer` meets its contract: what the search finds decides.
-use mathlib.Core.Path.{◌≡◌, sym, ap, ◌∙◌}
+use mathlib.Core.Path.{sym, ap, ◌∙◌}
 use mathlib.Core.Bool.{Bool}
 use native.Mathlib.Omega.{arith}
-use borrow.Author.Rules.{rules}
-use Rattle.cutoff.specs.Verdict.{never_dearer_lem}
-use Rattle.cutoff.specs.Sweep.{scale_in, dearer_at}
+use Rattle.cutoff.specs.Sweep.{dearer_at}
 use Rattle.cutoff.specs.declared.Found.{Found}
 use Rattle.cutoff.proofs.Judged.{calls}
 use Rattle.cutoff.proofs.Once.{once, scales_matched, never_once}
@@ -15,20 +13,21 @@ says a = calls (dearer_at once a)
 
 pub where_dearer-found-requires : goal.where_dearer-found-requires
 where_dearer-found-requires c =
-    let (scales, (defaults, survivors)) = c.requires in record {
-      scales = scales;
+    let pre = c.requires in
+    record {
+      scales = pre.scales;
       light = ((omega arith, omega arith), (omega arith, omega arith));
-      matched = scales_matched _ _ scales.0 scales.1 defaults survivors;
+      matched = scales_matched _ _ pre.scales.0 pre.scales.1 pre.defaults pre.survivors;
     }
 
 pub returns-in-One : goal.returns-in-One
 returns-in-One c =
-    let decides : let a = c.args in says c.where_dearer-found.result ≡ never_dearer_lem (scale_in a.first.now) (scale_in a.second.now) = let (scales, (defaults, survivors)) = c.requires in
-    never_once _ _ scales.0 scales.1 defaults survivors c.where_dearer-found.result c.where_dearer-found.ensures in
-    sym (ap says c.found-1.given.1) ∙ decides
+    let pre = c.requires in
+    sym (ap says c.in-One.is)
+    ∙ never_once _ _ pre.scales.0 pre.scales.1 pre.defaults pre.survivors c.where_dearer-found.result c.where_dearer-found.ensures
 
 pub returns-in-Nothing : goal.returns-in-Nothing
 returns-in-Nothing c =
-    let decides : let a = c.args in says c.where_dearer-found.result ≡ never_dearer_lem (scale_in a.first.now) (scale_in a.second.now) = let (scales, (defaults, survivors)) = c.requires in
-    never_once _ _ scales.0 scales.1 defaults survivors c.where_dearer-found.result c.where_dearer-found.ensures in
-    sym (ap says c.enum_told-1.given.1) ∙ decides
+    let pre = c.requires in
+    sym (ap says c.in-Nothing.is)
+    ∙ never_once _ _ pre.scales.0 pre.scales.1 pre.defaults pre.survivors c.where_dearer-found.result c.where_dearer-found.ensures

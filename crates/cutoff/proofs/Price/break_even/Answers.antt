@@ -1,6 +1,5 @@
 -- `break_even` meets its contract.
 use native.Mathlib.Omega.{arith}
-use borrow.Author.Rules.{rules}
 use Rattle.cutoff.proofs.Price.break_even.Goals as goal
 
 pub overflow_mul-result : goal.overflow_mul-result

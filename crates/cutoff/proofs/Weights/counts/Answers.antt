@@ -1,6 +1,5 @@
 -- `counts` meets its contract.
 use native.Mathlib.Omega.{arith}
-use borrow.Author.Rules.{rules}
 use Rattle.table.proofs.Arithmetic.{counts_fit}
 use Rattle.cutoff.proofs.Weights.counts.Goals as goal
 
