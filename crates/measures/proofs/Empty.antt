@@ -2,7 +2,7 @@
 use mathlib.Core.Path.{◌≡◌, refl}
 use mathlib.Core.List.{[], ◌∷◌}
 use native.Mathlib.Omega.{arith}
-use Rattle.table.specs.Table.{Table, Every, Counted, occupied, survivors}
+use Rattle.table.specs.Table.{Table, Every, Counted, occupied}
 use Rattle.table.proofs.Occupied.{by-grade, same_counts}
 use Rattle.measures.specs.Pairs.{concordant, discordant, tied}
 use Rattle.measures.specs.Brier.{brier_sum, brier_of}

@@ -1,6 +1,5 @@
 -- `apart` meets its contract.
 use native.Mathlib.Omega.{arith}
-use borrow.Author.Rules.{rules}
 use Rattle.table.proofs.Signed.{size-of}
 use Rattle.measures.proofs.apart.Goals as goal
 

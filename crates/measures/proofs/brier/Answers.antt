@@ -1,16 +1,16 @@
 -- `brier` meets its contract. The invariant: the sums are those of the grades from grade i on, at most 10^12 for each obligor.
-use Prim.Native.Nat.{ℕ, ◌+◌, ◌-◌, ◌*◌, ◌≤◌}
+use Prim.Native.Nat.{ℕ, ◌+◌, ◌-◌, ◌*◌}
 use mathlib.Core.Path.{◌≡◌}
 use native.Mathlib.Omega.{arith}
 use borrow.Author.Rules.{rules}
 use lib.ListN.{get_or}
 use Rattle.table.specs.declared.Place.{Place}
 use Rattle.table.specs.declared.Obligors.{Obligors}
-use Rattle.table.specs.Table.{survivors, obligors_in}
+use Rattle.table.specs.Table.{obligors_in}
 use Rattle.table.specs.Place.{grade_at, table_of}
 use Rattle.table.specs.Words.{place_in}
 use Rattle.table.proofs.Arithmetic.{times_eq}
-use Rattle.table.proofs.Suffix.{suffix, suffix_all, suffix_end, small}
+use Rattle.table.proofs.Suffix.{suffix_all, suffix_end, small}
 use Rattle.table.proofs.Words.{Turn, turn}
 use Rattle.measures.specs.Brier.{brier_at, brier_sum, brier_of}
 use Rattle.measures.proofs.Sizes.{brier_at_le}

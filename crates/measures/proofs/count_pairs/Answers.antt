@@ -1,12 +1,11 @@
 -- `count_pairs` meets its contract. The invariant: the counts are those of the grades from grade i on.
-use Prim.Native.Nat.{ℕ, ◌+◌, ◌-◌, ◌≤◌}
+use Prim.Native.Nat.{ℕ, ◌+◌, ◌-◌}
 use mathlib.Core.Path.{◌≡◌}
 use mathlib.Core.List.{◌∷◌}
 use native.Mathlib.Omega.{arith}
 use borrow.Author.Rules.{rules}
 use lib.ListN.{get_or}
 use Rattle.table.specs.declared.Place.{Place}
-use Rattle.table.specs.declared.Survivors.{Survivors}
 use Rattle.table.specs.Table.{survivors, defaults_in, survivors_in, obligors_in}
 use Rattle.table.specs.Place.{grade_at, table_of}
 use Rattle.table.specs.Words.{place_in}

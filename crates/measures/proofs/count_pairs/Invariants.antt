@@ -1,22 +1,12 @@
 -- `count_pairs` meets its contract. The invariant: the counts are those of the grades from grade i on.
-use Prim.Native.Nat.{ℕ, ◌+◌, ◌-◌, ◌≤◌}
+use Prim.Native.Nat.{ℕ, ◌≤◌}
 use mathlib.Core.Path.{◌≡◌}
-use mathlib.Core.List.{◌∷◌}
-use native.Mathlib.Omega.{arith}
-use borrow.Author.Rules.{rules}
-use lib.ListN.{get_or}
 use Rattle.table.specs.declared.Place.{Place}
 use Rattle.table.specs.declared.Survivors.{Survivors}
-use Rattle.table.specs.Table.{survivors, defaults_in, survivors_in, obligors_in}
-use Rattle.table.specs.Place.{grade_at, table_of}
+use Rattle.table.specs.Table.{defaults_in, survivors_in}
 use Rattle.table.specs.Words.{place_in}
-use Rattle.table.proofs.Arithmetic.{times_eq}
-use Rattle.table.proofs.Suffix.{suffix, suffix_all, suffix_end}
-use Rattle.table.proofs.Words.{Turn, turn}
-use Rattle.measures.specs.declared.PairCounts.{PairCounts}
+use Rattle.table.proofs.Suffix.{suffix}
 use Rattle.measures.specs.Pairs.{concordant, discordant}
-use Rattle.measures.specs.Private.{pair_counts_of}
-use Rattle.measures.proofs.Pairs.{few_pairs}
 use Rattle.measures.proofs.count_pairs.Given as goal
 
 pub record Passed (p : Place) (i d c x : ℕ) (s : Survivors) : Type 0 where

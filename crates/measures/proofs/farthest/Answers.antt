@@ -1,40 +1,32 @@
 -- `farthest` meets its contract. The invariant: at grade i the cutoffs that turn away no better grade have been tried.
-use Prim.Native.Nat.{ℕ, suc, ◌+◌, ◌-◌, ◌*◌, ◌≤◌, ◌<◌}
-use mathlib.Core.Path.{◌≡◌, sym, ap, ◌∙◌}
-use mathlib.Core.List.{List}
+use Prim.Native.Nat.{ℕ, ◌+◌, ◌-◌, ◌*◌}
+use mathlib.Core.Path.{◌≡◌, sym, ap}
 use native.Mathlib.Nat.{sub_self, zero-mul}
 use native.Mathlib.Omega.{arith}
-use borrow.Author.Rules.{rules}
-use borrow.Author.Tests.{lt-ltb, le-ltb}
-use lib.ListN.{length, get_or}
-use lib.IntN.{ℤ, pos, sub_ℕ, nat_abs}
-use mir.Syntax.{w64}
-use mir.Val.{to_z, of_z}
-use mir.ValLaws.{to_z-of_z}
+use lib.ListN.{length}
+use lib.IntN.{ℤ, pos, nat_abs}
 use Rattle.table.specs.declared.Place.{Place}
-use Rattle.table.specs.declared.Survivors.{Survivors}
-use Rattle.table.specs.Table.{Table, Sound, survivors, defaults_in, survivors_in}
-use Rattle.table.specs.Place.{grade_at, table_of}
+use Rattle.table.specs.Table.{Table, defaults_in, survivors_in}
+use Rattle.table.specs.Place.{table_of}
 use Rattle.table.specs.Words.{place_in}
-use Rattle.table.proofs.Arithmetic.{counts_le}
-use Rattle.table.proofs.Suffix.{suffix, suffix_end, length_grades, small, sound_small, few_counts}
+use Rattle.table.proofs.Suffix.{suffix, suffix_end, length_grades}
 use Rattle.table.proofs.Words.{Turn, turn}
 use Rattle.cutoff.specs.Best.{best}
-use Rattle.measures.specs.Measures.{height, farther}
+use Rattle.measures.specs.Measures.{height}
 use Rattle.measures.specs.Private.{farthest_of}
-use Rattle.measures.proofs.Cutoffs.{turned_none, turned_suffix}
-use Rattle.measures.proofs.Signed.{difference_fits}
-use Rattle.measures.proofs.farthest.Invariants.{best_from, Tried, p, inside, more_curve, more_diagonal, few_curve, few_diagonal, Next, next, best_new, best_kept, size, taken, left}
+use Rattle.measures.proofs.Cutoffs.{turned_none}
+use Rattle.measures.proofs.farthest.Invariants.{Tried, p, more_curve, more_diagonal, few_curve, Next, next, taken, left}
 use Rattle.measures.proofs.farthest.Goals as goal
 
 none : (t : Table) → pos 0 ≡ height t 0
 unfolding defaults_in survivors_in
 none t = rw (turned_none t, zero-mul (survivors_in t), zero-mul (defaults_in t))
 
-farthest_is : (p : Place) (i a b g h far : ℕ) → i ≡ 0 → Tried p i a b g h far
-    → record { cutoff = g; height = to_z w64 h } ≡ farthest_of (table_of p)
+farthest_is : (p : Place) (i a b g : ℕ) (h : ℤ) (far : ℕ) → i ≡ 0 → Tried p i a b g h far
+    → record { cutoff = g; height = h } ≡ farthest_of (table_of p)
 unfolding farthest_of
-farthest_is p i a b g h far e t =    let all : length (table_of p) ≡ p.grades - i = omega (arith, length_grades p 0 p.grades) in
+farthest_is p i a b g h far e t =
+    let all : length (table_of p) ≡ p.grades - i = omega (arith, length_grades p 0 p.grades) in
     rw (all, ← t.high, ← t.cutoff)
 
 pub grades_of-grades-requires : goal.grades_of-grades-requires

@@ -3,7 +3,6 @@ use Prim.Native.Nat.{ℕ, ◌+◌, ◌-◌, ◌*◌, ◌≤◌}
 use mathlib.Core.Path.{◌≡◌, ap, ◌∙◌}
 use native.Mathlib.Nat.{mul-le-mul_left}
 use native.Mathlib.Omega.{arith}
-use borrow.Author.Rules.{rules}
 use lib.IntN.{ℤ, sub_ℕ}
 use mir.Syntax.{w64}
 use mir.Val.{SFits, of_z}
@@ -39,7 +38,7 @@ record Known (t : Table) (m : PairCounts) (a b : ℕ) : Type 0 where
 known : {t : Table} {m : PairCounts} {n : Obligors} {a b : ℕ} → Small t → m ≡ pair_counts_of t
     → n.0 ≡ capped (m.survivors.0 + m.defaults) → a ≡ m.defaults * m.survivors.0 → b ≡ m.defaults * n.0 → Known t m a b
 unfolding pair_counts_of
-known {t} {m} {n} {a} {b} small e ofN ofA ofB =    let s : survivors_in t ≤ obligors_in t = omega arith in
+known {t} {m} {n} {a} {b} small e ofN ofA ofB = let s : survivors_in t ≤ obligors_in t = omega arith in
     let c : m.concordant ≡ concordant t = rw e in
     let x : m.discordant ≡ discordant t = rw e in
     let all : n.0 ≡ obligors_in t = omega (arith, rw e at ofN) in
@@ -72,11 +71,13 @@ measures_are : {t : Table} {m : PairCounts} {a b : ℕ} → Known t m a b → (h
       cutoff = h.cutoff;
     } ≡ measures_of t
 unfolding measures_of pair_counts_of farthest_of
-measures_are {t} k h e z w of_z of_w =    let roc : pairs t + concordant t - discordant t ≡ 2 * concordant t + tied t = omega arith in
+measures_are {t} k h e z w of_z of_w = let roc : pairs t + concordant t - discordant t ≡ 2 * concordant t + tied t = omega arith in
     rw (of_w, of_z, e, k.counts, k.of_a, k.of_b, roc)
 
 pub farthest-top-requires : goal.farthest-top-requires
-farthest-top-requires c = (c.requires, totals (table_in c.args.place.now) c.count_pairs-counts.ensures)
+farthest-top-requires c =
+    let both = totals (table_in c.args.place.now) c.count_pairs-counts.ensures in
+    record { holds_table = c.requires; all_defaults = both.0; all_survivors = both.1 }
 
 pub difference-requires : goal.difference-requires
 difference-requires c =
