@@ -6,8 +6,8 @@ use Rattle.spread.proofs.claims.Goals as goal
 pub returns : goal.returns
 returns c =
     record {
-  total_is_the_brier_sum_of_the_one_rate = total_brier;
-  residual_is_the_brier_sum_of_the_pooled_rates = residual_brier;
-  sums_are_proper = sums_proper;
-  floats_are_proper = floats_proper;
-}
+      total_is_the_brier_sum_of_the_one_rate = total_brier;
+      residual_is_the_brier_sum_of_the_pooled_rates = residual_brier;
+      sums_are_proper = sums_proper;
+      floats_are_proper = floats_proper;
+    }

@@ -2,12 +2,10 @@
 -- passed are still to be added.
 use Prim.Native.Nat.{ℕ, zero, suc, ◌+◌, ◌-◌, ◌*◌, ◌≤◌, ◌<◌}
 use mathlib.Core.Path.{◌≡◌, refl, sym, ap, subst, ◌∙◌}
-use mathlib.Core.Bool.{Bool, true, false, not}
+use mathlib.Core.Bool.{Bool, true, false}
 use mathlib.Core.List.{List, ◌∷◌}
 use native.Mathlib.Nat.{add-zero}
 use native.Mathlib.Omega.{arith}
-use borrow.Author.Rules.{rules}
-use borrow.Author.Tests.{not-true, not-false}
 use lib.Ieee.{Float, binary64, add}
 use lib.ListN.{length, get_or, drop}
 use lib.Seq.{get_or-drop, drop-drop}
@@ -47,9 +45,9 @@ module _ (w : List ℕ) (h : HoldsPooledTable w) (end : ℕ) (x : Block) (sum : 
   added_new c cs e = rw e at a
 
   turned : (l : List ℕ) → Next l x rest k → get_or l 0 0 ≡ get_or w at 0 → get_or l 1 0 ≡ n → drop 3 l ≡ drop (at + 3) w → Turn w end x sum at n
-  turned l (same s p) d m e =    again (rw (d, m) at s)
+  turned l (same s p) d m e = again (rw (d, m) at s)
       (record { rest = rest; left = k; from = omega arith; index = omega arith; passing = rw e at p; added = a })
-  turned l (new c cs r cd cn s p) d o e =    let b = added_new c cs r in
+  turned l (new c cs r cd cn s p) d o e = let b = added_new c cs r in
       let m = counts bs (scale w h) c cs sum b in
       let dd = cd ∙ d in
       let nn = cn ∙ o in
@@ -66,26 +64,26 @@ module _ (w : List ℕ) (h : HoldsPooledTable w) (end : ℕ) (x : Block) (sum : 
 turn : (w : List ℕ) → HoldsPooledTable w → (end : ℕ) (x : Block) (sum : Float) (at n : ℕ) → n ≡ get_or w (at + 1) 0 → at < end
     → (i : Adding w end x sum at) → (k : ℕ) → i.left ≡ k → Turn w end x sum at n
 turn w h end x sum at n of less i zero e = absurd (omega (arith, i.index))
-turn w h end x sum at n of less i (suc k) e =    turned w h end x sum at n i.rest k i.from (omega (arith, i.index)) i.added (drop at w)
+turn w h end x sum at n of less i (suc k) e = turned w h end x sum at n i.rest k i.from (omega (arith, i.index)) i.added (drop at w)
     (next (drop at w) x i.rest k (rw e at i.passing))
     (get_or-drop at w 0 0 ∙ ap (λ (j : ℕ). get_or w j 0) (add-zero at))
     (get_or-drop at w 1 0 ∙ sym of)
     (drop-drop 3 at w)
 
 -- by what the code found
-is_again : {w : List ℕ} {end : ℕ} {x : Block} {sum : Float} {at n : ℕ} → Turn w end x sum at n → (b : Bool) → b ≡ shows x (get_or w at 0) (n) → not b ≡ false
+is_again : {w : List ℕ} {end : ℕ} {x : Block} {sum : Float} {at n : ℕ} → Turn w end x sum at n → (b : Bool) → b ≡ shows x (get_or w at 0) (n) → b ≡ true
     → Adding w end x sum (at + 3)
 is_again (again s i) b e h = i
-is_again (more s m f) b e h = let z : ◌≡◌ {A = ℕ} 0 1 = cc (s, e, not-false b h) in absurd (omega arith)
+is_again (more s m f) b e h = cc
 
 record New (w : List ℕ) (end : ℕ) (sum : Float) (at n : ℕ) : Type 0 where
   pub small : (1 ≤ n) × (get_or w at 0 ≤ n) × (n ≤ 1_000_000)
   pub then : (q : Float) → Within q (ratio (get_or w at 0 * (n - get_or w at 0)) (n)) 36
       → Adding w end (block 0 (n) (get_or w at 0)) (add binary64 sum q) (at + 3)
 
-is_new : {w : List ℕ} {end : ℕ} {x : Block} {sum : Float} {at n : ℕ} → Turn w end x sum at n → (b : Bool) → b ≡ shows x (get_or w at 0) (n) → not b ≡ true
+is_new : {w : List ℕ} {end : ℕ} {x : Block} {sum : Float} {at n : ℕ} → Turn w end x sum at n → (b : Bool) → b ≡ shows x (get_or w at 0) (n) → b ≡ false
     → New w end sum at n
-is_new (again s i) b e h = let z : ◌≡◌ {A = ℕ} 0 1 = cc (s, e, not-true b h) in absurd (omega arith)
+is_new (again s i) b e h = cc
 is_new (more s m f) b e h = record { small = m; then = f }
 
 pub place_grades-requires : goal.place_grades-requires

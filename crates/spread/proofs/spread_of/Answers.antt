@@ -2,7 +2,6 @@
 use Prim.Native.Nat.{◌-◌}
 use mathlib.Core.Path.{◌≡◌, ap, ◌∙◌}
 use native.Mathlib.Omega.{arith}
-use borrow.Author.Rules.{rules}
 use Rattle.table.specs.Table.{Table, defaults_in, survivors_in, obligors_in}
 use Rattle.table.specs.Words.{table_in}
 use Rattle.table.specs.Counts.{totals_of_lem}
@@ -28,7 +27,12 @@ quotient-requires c =
     let totals : c.totals_of-t.result ≡ totals_of_lem table = c.totals_of-t.ensures ∙ ap totals_of_lem (counts_same c.args.place.now c.counts_of.ensures) in
     let t = table in
     let sound = c.requires.sound in
-    rw totals (omega (arith, obligors_split t sound.counted), (someone t sound.some_occupied, sound.total))
+    rw totals
+    (record {
+      defaults_le_obligors = omega (arith, obligors_split t sound.counted);
+      le_obligors = someone t sound.some_occupied;
+      obligors_bound = sound.total;
+    })
 
 pub returns : goal.returns
 unfolding totals_of_lem
