@@ -1,7 +1,6 @@
 -- `judge` meets its contract: the words are those of the blocks of the two tables, each is searched in the weights of the other's totals, and
 -- the two searches make the verdict.
 use Prim.Native.Nat.{◌-◌}
-use borrow.Author.Rules.{rules}
 use lib.ListN.{take, drop}
 use Rattle.table.specs.Words.{table_in}
 use Rattle.pooling.proofs.Words.{words_part}
@@ -22,7 +21,7 @@ where_dearer-first_found-requires c =
     judges one two
     (words_part f.new.items f.result 120 _ f.ensures.blocks.0 f.ensures.length)
     (words_part g.new.items g.result 120 _ g.ensures.blocks.0 g.ensures.length) in
-    searchable held
+    let s = searchable held in record { scales = s.0; light = s.1.0; matched = s.1.1 }
 
 pub where_dearer-second_found-requires : goal.where_dearer-second_found-requires
 where_dearer-second_found-requires c =
@@ -37,7 +36,7 @@ where_dearer-second_found-requires c =
     judges one two
     (words_part f.new.items f.result 120 _ f.ensures.blocks.0 f.ensures.length)
     (words_part g.new.items g.result 120 _ g.ensures.blocks.0 g.ensures.length) in
-    searchable (swapped held)
+    let s = searchable (swapped held) in record { scales = s.0; light = s.1.0; matched = s.1.1 }
 
 pub at_break_even-first_dearer-requires : goal.at_break_even-first_dearer-requires
 at_break_even-first_dearer-requires c =
