@@ -3,7 +3,6 @@ use Prim.Native.Nat.{ℕ, zero, suc, ◌+◌, ◌-◌, ◌≤◌, ◌<◌}
 use mathlib.Core.Path.{◌≡◌, refl, sym, ap, subst, ◌∙◌}
 use mathlib.Core.List.{List, ◌++◌}
 use native.Mathlib.Omega.{arith}
-use borrow.Author.Rules.{rules}
 use lib.ListN.{length, get_or, set, length-set}
 use Rattle.table.specs.Table.{Table, Sound, obligors_in}
 use Rattle.table.specs.Place.{place_of}
@@ -216,7 +215,7 @@ pub shape_of-words : goal.shape_of-words
 shape_of-words c =
     let words : List ℕ = c.args.words.now in
     let i : ℕ = c.wide-g.result - 1 in
-    c.pool_anew.auto.0 ∙ two_long words i c.after-after.result.obligors.0 c.after-after.result.defaults
+    c.pool_anew.auto.words ∙ two_long words i c.after-after.result.obligors.0 c.after-after.result.defaults
 
 pub returns : goal.returns
 returns c =

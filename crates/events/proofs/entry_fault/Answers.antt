@@ -1,6 +1,5 @@
 -- `entry_fault` meets its contract.
 use native.Mathlib.Omega.{arith}
-use borrow.Author.Rules.{rules}
 use Rattle.book.proofs.Checks.{found, none, pass, over}
 use Rattle.events.proofs.entry_fault.Goals as goal
 

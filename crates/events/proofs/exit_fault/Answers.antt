@@ -1,6 +1,5 @@
 -- `exit_fault` meets its contract.
 use native.Mathlib.Omega.{arith}
-use borrow.Author.Rules.{rules}
 use Rattle.book.proofs.Checks.{found, none, pass, over}
 use Rattle.events.proofs.exit_fault.Goals as goal
 
