@@ -1,6 +1,6 @@
 -- The checks of the totals go by each table beside the first: the smallest of the tables' faults is that of all checks in their order.
 use Prim.Native.Nat.{ℕ}
-use mathlib.Core.Path.{◌≡◌, refl, sym, ◌∙◌}
+use mathlib.Core.Path.{◌≡◌, refl, sym, subst, ◌∙◌}
 use mathlib.Core.Bool.{Bool, true, false, not, cond, ◌||◌}
 use mathlib.Core.List.{List, [], ◌∷◌, ◌++◌}
 use native.Mathlib.Omega.{arith}
@@ -44,7 +44,7 @@ module _ (count : Table → ℕ) where
   pub level_same : (n : ℕ) (ts : List Table) → All n ts → 0 ≡ fault (same_checks count ts)
   unfolding same_checks fault
   level_same n [] f = refl
-  level_same n (t ∷ ts) f = rw (equal_passed (count t) ts (same_checks count ts) (rw f.0 at f.1)) (level_same n ts f.1)
+  level_same n (t ∷ ts) f = rw (equal_passed (count t) ts (same_checks count ts) (subst (λ (m : ℕ). All m ts) f.0 f.1)) (level_same n ts f.1)
 
   equal_fault : (n : ℕ) (ts : List Table) (more : List Check) → (All n ts → fault more ≡ 0)
       → fault (equal_checks count n ts ++ more) ≡ cond (differ n ts) 25 0
