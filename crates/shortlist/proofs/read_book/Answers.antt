@@ -1,6 +1,5 @@
 -- `read_book` meets its contract: each way out has the number of the check that ends there.
 use mathlib.Core.Path.{◌≡◌, sym, ◌∙◌}
-use borrow.Author.Rules.{rules}
 use Rattle.book.specs.Layout.{layout_fault}
 use Rattle.book.specs.Reading.{book_fault}
 use Rattle.book.proofs.Checks.{stop, go}
@@ -18,7 +17,6 @@ returns-then-head-ne0 c =
 pub returns-then-tables-ne0 : goal.returns-then-tables-ne0
 unfolding book_fault layout_fault
 returns-then-tables-ne0 c =
-    let laid : layout_fault c.args.book.now ≡ 0 = sym (go (sym c.head_fault-head.ensures ∙ c.if-head-ne0.false) (sym c.if-tables-ne0.false ∙ c.tables_fault-tables.ensures)) in
     let some = c.if-tables-ne0.true in
     let laid = go (sym c.head_fault-head.ensures ∙ c.if-head-ne0.false) c.tables_fault-tables.ensures in record {
       value = stop _ laid some;
@@ -39,4 +37,4 @@ pub returns : goal.returns
 unfolding book_fault layout_fault
 returns c =
     let laid : layout_fault c.args.book.now ≡ 0 = sym (go (sym c.head_fault-head.ensures ∙ c.if-head-ne0.false) (sym c.if-tables-ne0.false ∙ c.tables_fault-tables.ensures)) in
-    (go laid c.read_scales.ensures.value, c.read_scales.ensures.1)
+    record { value = go laid c.read_scales.ensures.value; scales = c.read_scales.ensures.scales; length = c.read_scales.ensures.length }

@@ -16,6 +16,12 @@ comparable : {held : List ℕ} {n : ℕ} → Searchable held n → (q r : ℕ) �
     → (Sweepable u × Sweepable v) × ((defaults_in (scale_in u) ≡ defaults_in (scale_in v)) × (survivors_in (scale_in u) ≡ survivors_in (scale_in v)))
 comparable s q r l m e f = rw (e, f) ((s.sweepable q l, s.sweepable r m), (s.same_defaults q r l m, s.same_survivors q r l m))
 
+-- What the two searches answer says which of the raters q and r is better.
+decided : (held : List ℕ) (q r : ℕ) {u v : List ℕ} → u ≡ blocks_held (held_of held q) → v ≡ blocks_held (held_of held r) → {x y : Bool}
+    → x ≡ never_dearer_lem (scale_in u) (scale_in v) → y ≡ never_dearer_lem (scale_in v) (scale_in u) → (a b : Bool) → x ≡ a → y ≡ b
+    → winner_of a b ≡ winner_of (never_dearer_lem (scale_at held q) (scale_at held r)) (never_dearer_lem (scale_at held r) (scale_at held q))
+decided held q r e f h k a b g l = rw (← e, ← f, ← h, ← k, g, l)
+
 pub blocks_at-first-requires : goal.blocks_at-first-requires
 blocks_at-first-requires c =
     let s = c.requires.1 in record {
@@ -31,34 +37,36 @@ blocks_at-second-requires c =
     }
 
 pub never_dearer-requires : goal.never_dearer-requires
-never_dearer-requires c = comparable c.requires.1 c.args.i c.args.j (omega arith) (omega arith) c.blocks_at-first.ensures c.blocks_at-second.ensures
+never_dearer-requires c =
+    let k = comparable c.requires.1 c.args.i c.args.j (omega arith) (omega arith) c.blocks_at-first.ensures c.blocks_at-second.ensures in
+    record { scales = k.0; defaults = k.1.0; survivors = k.1.1 }
 
 pub never_dearer-requires-then-never_dearer : goal.never_dearer-requires-then-never_dearer
 never_dearer-requires-then-never_dearer c =
-    let back : let u = c.blocks_at-second.result.now in let v = c.blocks_at-first.result.now in (Sweepable u × Sweepable v) × ((defaults_in (scale_in u) ≡ defaults_in (scale_in v)) × (survivors_in (scale_in u) ≡ survivors_in (scale_in v))) = comparable c.requires.1 c.args.j c.args.i (omega arith) (omega arith) c.blocks_at-second.ensures c.blocks_at-first.ensures in
-    back
+    let k = comparable c.requires.1 c.args.j c.args.i (omega arith) (omega arith) c.blocks_at-second.ensures c.blocks_at-first.ensures in
+    record { scales = k.0; defaults = k.1.0; survivors = k.1.1 }
 
 pub never_dearer-requires-else-never_dearer : goal.never_dearer-requires-else-never_dearer
 never_dearer-requires-else-never_dearer c =
-    let back : let u = c.blocks_at-second.result.now in let v = c.blocks_at-first.result.now in (Sweepable u × Sweepable v) × ((defaults_in (scale_in u) ≡ defaults_in (scale_in v)) × (survivors_in (scale_in u) ≡ survivors_in (scale_in v))) = comparable c.requires.1 c.args.j c.args.i (omega arith) (omega arith) c.blocks_at-second.ensures c.blocks_at-first.ensures in
-    back
+    let k = comparable c.requires.1 c.args.j c.args.i (omega arith) (omega arith) c.blocks_at-second.ensures c.blocks_at-first.ensures in
+    record { scales = k.0; defaults = k.1.0; survivors = k.1.1 }
 
 pub returns-then-never_dearer-2 : goal.returns-then-never_dearer-2
 returns-then-never_dearer-2 c =
-    let decided : {y : Bool} → y ≡ never_dearer_lem (scale_in c.blocks_at-second.result.now) (scale_in c.blocks_at-first.result.now) → (a b : Bool) → c.never_dearer.result ≡ a → y ≡ b → let args = c.args in let first = scale_at args.held.now args.i in let second = scale_at args.held.now args.j in winner_of a b ≡ winner_of (never_dearer_lem first second) (never_dearer_lem second first) = λ q a b g h. rw (← c.blocks_at-first.ensures, ← c.blocks_at-second.ensures, ← c.never_dearer.ensures, ← q, g, h) in
-    decided c.never_dearer-then-never_dearer.ensures true true c.if-never_dearer.true c.if-never_dearer-2.true
+    decided c.args.held.now c.args.i c.args.j c.blocks_at-first.ensures c.blocks_at-second.ensures c.never_dearer.ensures c.never_dearer-then-never_dearer.ensures true true
+    c.if-never_dearer.true c.if-never_dearer-2.true
 
 pub returns-else-never_dearer-2 : goal.returns-else-never_dearer-2
 returns-else-never_dearer-2 c =
-    let decided : {y : Bool} → y ≡ never_dearer_lem (scale_in c.blocks_at-second.result.now) (scale_in c.blocks_at-first.result.now) → (a b : Bool) → c.never_dearer.result ≡ a → y ≡ b → let args = c.args in let first = scale_at args.held.now args.i in let second = scale_at args.held.now args.j in winner_of a b ≡ winner_of (never_dearer_lem first second) (never_dearer_lem second first) = λ q a b g h. rw (← c.blocks_at-first.ensures, ← c.blocks_at-second.ensures, ← c.never_dearer.ensures, ← q, g, h) in
-    decided c.never_dearer-then-never_dearer.ensures true false c.if-never_dearer.true c.if-never_dearer-2.false
+    decided c.args.held.now c.args.i c.args.j c.blocks_at-first.ensures c.blocks_at-second.ensures c.never_dearer.ensures c.never_dearer-then-never_dearer.ensures true false
+    c.if-never_dearer.true c.if-never_dearer-2.false
 
 pub returns-then-never_dearer-3 : goal.returns-then-never_dearer-3
 returns-then-never_dearer-3 c =
-    let decided : {y : Bool} → y ≡ never_dearer_lem (scale_in c.blocks_at-second.result.now) (scale_in c.blocks_at-first.result.now) → (a b : Bool) → c.never_dearer.result ≡ a → y ≡ b → let args = c.args in let first = scale_at args.held.now args.i in let second = scale_at args.held.now args.j in winner_of a b ≡ winner_of (never_dearer_lem first second) (never_dearer_lem second first) = λ q a b g h. rw (← c.blocks_at-first.ensures, ← c.blocks_at-second.ensures, ← c.never_dearer.ensures, ← q, g, h) in
-    decided c.never_dearer-else-never_dearer.ensures false true c.if-never_dearer.false c.if-never_dearer-3.true
+    decided c.args.held.now c.args.i c.args.j c.blocks_at-first.ensures c.blocks_at-second.ensures c.never_dearer.ensures c.never_dearer-else-never_dearer.ensures false true
+    c.if-never_dearer.false c.if-never_dearer-3.true
 
 pub returns-else-never_dearer-3 : goal.returns-else-never_dearer-3
 returns-else-never_dearer-3 c =
-    let decided : {y : Bool} → y ≡ never_dearer_lem (scale_in c.blocks_at-second.result.now) (scale_in c.blocks_at-first.result.now) → (a b : Bool) → c.never_dearer.result ≡ a → y ≡ b → let args = c.args in let first = scale_at args.held.now args.i in let second = scale_at args.held.now args.j in winner_of a b ≡ winner_of (never_dearer_lem first second) (never_dearer_lem second first) = λ q a b g h. rw (← c.blocks_at-first.ensures, ← c.blocks_at-second.ensures, ← c.never_dearer.ensures, ← q, g, h) in
-    decided c.never_dearer-else-never_dearer.ensures false false c.if-never_dearer.false c.if-never_dearer-3.false
+    decided c.args.held.now c.args.i c.args.j c.blocks_at-first.ensures c.blocks_at-second.ensures c.never_dearer.ensures c.never_dearer-else-never_dearer.ensures false false
+    c.if-never_dearer.false c.if-never_dearer-3.false

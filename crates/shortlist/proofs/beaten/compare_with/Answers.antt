@@ -1,13 +1,11 @@
 -- `compare_with` meets its contract. The invariant: comparing with those from i on gives what comparing with all gives.
-use Prim.Native.Nat.{◌-◌, ◌≤◌}
-use mathlib.Core.Path.{◌≡◌, ◌∙◌}
+use Prim.Native.Nat.{◌-◌}
+use mathlib.Core.Path.{◌≡◌, sym, ◌∙◌}
 use native.Mathlib.Omega.{arith}
-use borrow.Author.Rules.{rules}
-use lib.ListN.{length, length-set}
+use lib.ListN.{length-set}
 use Rattle.shortlist.specs.Private.{beats, compared}
-use Rattle.shortlist.specs.declared.beaten.Winner.{Winner}
 use Rattle.shortlist.specs.declared.beaten.Winner.TheVariants.{First, Second, Neither}
-use Rattle.shortlist.proofs.Compared.{first_beats, second_beats, won_by, skipped, won}
+use Rattle.shortlist.proofs.Compared.{first_beats, second_beats, skipped, won}
 use Rattle.shortlist.proofs.beaten.compare_with.Goals as goal
 
 pub loop-i-init : goal.loop-i-init
@@ -27,41 +25,36 @@ better_of-winner-requires c = (c.loop-i-test.true, c.requires.1)
 
 pub returns-in-First : goal.returns-in-First
 returns-in-First c =
-    let turn : (w : Winner) → c.better_of-winner.result ≡ w → let a = c.args in let l = c.loop-i in won_by (beats a.held.now) a.j l.i l.marks w ≡ compared (beats a.held.now) a.j a.j 0 a.marks.now = λ w e. let a = c.args in
+    let says = sym c.in-First.is ∙ c.better_of-winner.ensures in
+    let held = c.args.held.now in
     let l = c.loop-i in
-    let held = a.held.now in
-    let says = rw e at c.better_of-winner.ensures in
-    won (beats held) a.j l.i l.marks c.loop-i-test.true c.if-marks-at-ne0.false w
-    (first_beats held l.i a.j says) (second_beats held l.i a.j says)
+    let same =
+    won (beats held) c.args.j l.i l.marks c.loop-i-test.true c.if-marks-at-ne0.false First
+    (first_beats held l.i c.args.j says) (second_beats held l.i c.args.j says)
     ∙ l.invariant.2 in
-    record {
-      marks_after = turn First c.enum_told-1.given.1;
-      length = rw length-set c.loop-i.invariant.1;
-    }
+    record { marks_after = same; length = rw length-set l.invariant.1 }
 
 pub loop-i-preserved-in-Second : goal.loop-i-preserved-in-Second
 loop-i-preserved-in-Second c =
-    let turn : (w : Winner) → c.better_of-winner.result ≡ w → let a = c.args in let l = c.loop-i in won_by (beats a.held.now) a.j l.i l.marks w ≡ compared (beats a.held.now) a.j a.j 0 a.marks.now = λ w e. let a = c.args in
+    let says = sym c.in-Second.is ∙ c.better_of-winner.ensures in
+    let held = c.args.held.now in
     let l = c.loop-i in
-    let held = a.held.now in
-    let says = rw e at c.better_of-winner.ensures in
-    won (beats held) a.j l.i l.marks c.loop-i-test.true c.if-marks-at-ne0.false w
-    (first_beats held l.i a.j says) (second_beats held l.i a.j says)
+    let same =
+    won (beats held) c.args.j l.i l.marks c.loop-i-test.true c.if-marks-at-ne0.false Second
+    (first_beats held l.i c.args.j says) (second_beats held l.i c.args.j says)
     ∙ l.invariant.2 in
-    let l = c.loop-i in
-    (omega (arith, c.loop-i-test.true), rw length-set l.invariant.1, turn Second c.enum_told-in-Second-1.given.1)
+    (omega (arith, c.loop-i-test.true), rw length-set l.invariant.1, same)
 
 pub loop-i-preserved : goal.loop-i-preserved
 loop-i-preserved c =
-    let turn : (w : Winner) → c.better_of-winner.result ≡ w → let a = c.args in let l = c.loop-i in won_by (beats a.held.now) a.j l.i l.marks w ≡ compared (beats a.held.now) a.j a.j 0 a.marks.now = λ w e. let a = c.args in
+    let says = sym c.in-Neither.is ∙ c.better_of-winner.ensures in
+    let held = c.args.held.now in
     let l = c.loop-i in
-    let held = a.held.now in
-    let says = rw e at c.better_of-winner.ensures in
-    won (beats held) a.j l.i l.marks c.loop-i-test.true c.if-marks-at-ne0.false w
-    (first_beats held l.i a.j says) (second_beats held l.i a.j says)
+    let same =
+    won (beats held) c.args.j l.i l.marks c.loop-i-test.true c.if-marks-at-ne0.false Neither
+    (first_beats held l.i c.args.j says) (second_beats held l.i c.args.j says)
     ∙ l.invariant.2 in
-    let l = c.loop-i in
-    (omega (arith, c.loop-i-test.true), l.invariant.1, turn Neither c.enum_told-in-Neither-1.given.1)
+    (omega (arith, c.loop-i-test.true), l.invariant.1, same)
 
 pub returns : goal.returns
 unfolding compared

@@ -1,13 +1,8 @@
 -- `compare_with` meets its contract. The invariant: comparing with those from i on gives what comparing with all gives.
 use Prim.Native.Nat.{◌-◌, ◌≤◌}
-use mathlib.Core.Path.{◌≡◌, ◌∙◌}
-use native.Mathlib.Omega.{arith}
-use borrow.Author.Rules.{rules}
-use lib.ListN.{length, length-set}
+use mathlib.Core.Path.{◌≡◌}
+use lib.ListN.{length}
 use Rattle.shortlist.specs.Private.{beats, compared}
-use Rattle.shortlist.specs.declared.beaten.Winner.{Winner}
-use Rattle.shortlist.specs.declared.beaten.Winner.TheVariants.{First, Second, Neither}
-use Rattle.shortlist.proofs.Compared.{first_beats, second_beats, won_by, skipped, won}
 use Rattle.shortlist.proofs.beaten.compare_with.Given as goal
 
 abbrev pub invariant-loop-i : goal.invariant-loop-i

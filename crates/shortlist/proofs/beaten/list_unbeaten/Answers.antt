@@ -1,10 +1,7 @@
 -- `list_unbeaten` meets its contract. The invariant: each of the first j raters is compared with those before it.
-use Prim.Native.Nat.{◌-◌, ◌≤◌}
 use mathlib.Core.Path.{◌≡◌, refl}
 use native.Mathlib.Numerals.{add-one}
 use native.Mathlib.Omega.{arith}
-use borrow.Author.Rules.{rules}
-use lib.ListN.{length}
 use Rattle.shortlist.specs.Private.{beats, all_compared}
 use Rattle.shortlist.proofs.Compared.{fewer}
 use Rattle.shortlist.proofs.beaten.list_unbeaten.Goals as goal
@@ -37,4 +34,4 @@ returns c =
     let l = c.loop-j in
     let e : l.j ≡ a.raters = omega (arith, c.loop-j-test.false, l.invariant.0) in
     let m : l.marks ≡ all_compared (beats a.held.now) a.raters = rw e at l.invariant.2 in
-    rw m at w
+    record { value = rw m at w.value; out_after = rw m at w.out_after }

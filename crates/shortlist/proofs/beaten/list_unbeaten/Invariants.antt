@@ -1,12 +1,8 @@
 -- `list_unbeaten` meets its contract. The invariant: each of the first j raters is compared with those before it.
 use Prim.Native.Nat.{◌-◌, ◌≤◌}
-use mathlib.Core.Path.{◌≡◌, refl}
-use native.Mathlib.Numerals.{add-one}
-use native.Mathlib.Omega.{arith}
-use borrow.Author.Rules.{rules}
+use mathlib.Core.Path.{◌≡◌}
 use lib.ListN.{length}
 use Rattle.shortlist.specs.Private.{beats, all_compared}
-use Rattle.shortlist.proofs.Compared.{fewer}
 use Rattle.shortlist.proofs.beaten.list_unbeaten.Given as goal
 
 abbrev pub invariant-loop-j : goal.invariant-loop-j

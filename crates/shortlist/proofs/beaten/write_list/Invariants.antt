@@ -1,14 +1,9 @@
 -- `write_list` meets its contract. The invariant is `Listing`.
-use Prim.Native.Nat.{ℕ, ◌-◌, ◌≤◌}
-use mathlib.Core.Path.{◌≡◌}
+use Prim.Native.Nat.{ℕ, ◌-◌}
 use mathlib.Core.Bool.{Bool}
-use native.Mathlib.Omega.{arith}
-use borrow.Author.Rules.{rules}
-use borrow.Author.Tests.{eq-eqb, ne_eqb}
 use lib.Dec.{eqb}
-use lib.ListN.{length, take, length-take}
-use lib.Seq.{get_or-take}
-use Rattle.shortlist.proofs.Writing.{Listing, none_listed, length-listed, passed_over, put_down, all_listed}
+use lib.ListN.{take}
+use Rattle.shortlist.proofs.Writing.{Listing}
 use Rattle.shortlist.proofs.beaten.write_list.Given as goal
 
 abbrev pub none : ℕ → Bool

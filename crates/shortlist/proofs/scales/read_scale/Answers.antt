@@ -1,6 +1,5 @@
 -- `read_scale` meets its contract.
 use mathlib.Core.Path.{sym, ◌∙◌}
-use borrow.Author.Rules.{rules}
 use Rattle.book.specs.Rows.{table_from}
 use Rattle.shortlist.proofs.Read.{Stored, stored}
 use Rattle.shortlist.proofs.scales.read_scale.Goals as goal
@@ -15,14 +14,14 @@ returns-then-number-ne0 c =
 
 pub hold-requires : goal.hold-requires
 hold-requires c =
-    let read : let a = c.args in Stored c.read_table-number.new.start.1.0 (table_from a.book.now a.start) = let p = c.requires.table in
+    let read : let a = c.args in Stored c.read_table-number.new.place (table_from a.book.now a.start) = let p = c.requires.table in
     let e = c.read_table-number.ensures in
     stored _ _ p.1 p.2 (sym e.value ∙ c.if-number-ne0.false) (e.place_after c.if-number-ne0.false) in
     (read.holds, c.requires.room)
 
 pub returns : goal.returns
 returns c =
-    let read : let a = c.args in Stored c.read_table-number.new.start.1.0 (table_from a.book.now a.start) = let p = c.requires.table in
+    let read : let a = c.args in Stored c.read_table-number.new.place (table_from a.book.now a.start) = let p = c.requires.table in
     let e = c.read_table-number.ensures in
     stored _ _ p.1 p.2 (sym e.value ∙ c.if-number-ne0.false) (e.place_after c.if-number-ne0.false) in
     let h = c.hold.ensures in

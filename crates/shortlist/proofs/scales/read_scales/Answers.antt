@@ -10,7 +10,7 @@ use Rattle.book.specs.Layout.{raters, start_of}
 use Rattle.book.specs.Rows.{table_from, table_of_rater, table_fault_lem}
 use Rattle.book.proofs.Stands.{Stands}
 use Rattle.book.proofs.Whole.{laid}
-use Rattle.shortlist.proofs.Reading.{Reading, none_read, ends, goes, all_read}
+use Rattle.shortlist.proofs.Reading.{none_read, ends, goes, all_read}
 use Rattle.shortlist.proofs.scales.read_scales.Goals as goal
 
 pub raters_of-raters-requires : goal.raters_of-raters-requires
@@ -88,11 +88,11 @@ shape_of-held-then-fault-ne0 c =
     let book : List ℕ = c.args.book.now in
     let more : c.loop-rater.rater < raters book = omega (arith, c.loop-rater.invariant.0, c.loop-rater-test.true) in
     let few : c.loop-rater.rater < 16 = omega (arith, more, c.loop-rater.invariant.1.laid.few) in
-    let kept : length (put_mid (123 * c.loop-rater.rater) (123 * c.loop-rater.rater + 123 - 123 * c.loop-rater.rater) c.loop-rater.held c.read_scale-fault.new.start.1.0) ≡ 1968 = let r = c.loop-rater.rater in
+    let kept : length (put_mid (123 * c.loop-rater.rater) (123 * c.loop-rater.rater + 123 - 123 * c.loop-rater.rater) c.loop-rater.held c.read_scale-fault.new.scale) ≡ 1968 = let r = c.loop-rater.rater in
     let k : 123 * r + 123 - 123 * r ≡ 123 = omega arith in
     let long = c.loop-rater.invariant.1.long in
     let new = c.read_scale-fault.ensures.length in
-    rw k (same_len_mid (123 * r) 123 c.loop-rater.held c.read_scale-fault.new.start.1.0 (rw (length-take, length-drop) (omega (arith, few))) ∙ long) in
+    rw k (same_len_mid (123 * r) 123 c.loop-rater.held c.read_scale-fault.new.scale (rw (length-take, length-drop) (omega (arith, few))) ∙ long) in
     kept ∙ sym c.requires.room
 
 pub returns-then-fault-ne0 : goal.returns-then-fault-ne0
@@ -102,11 +102,11 @@ returns-then-fault-ne0 c =
     let starts : c.start_of.result ≡ start_of book (suc c.loop-rater.rater) = c.start_of.ensures ∙ ap (λ (j : ℕ). start_of book j) (add-one c.loop-rater.rater) in
     let fault_is : c.read_scale-fault.result ≡ table_fault_lem (table_of_rater book (suc c.loop-rater.rater)) = c.read_scale-fault.ensures.value ∙ ap (λ (s : ℕ). table_fault_lem (table_from book s)) starts in
     let few : c.loop-rater.rater < 16 = omega (arith, more, c.loop-rater.invariant.1.laid.few) in
-    let kept : length (put_mid (123 * c.loop-rater.rater) (123 * c.loop-rater.rater + 123 - 123 * c.loop-rater.rater) c.loop-rater.held c.read_scale-fault.new.start.1.0) ≡ 1968 = let r = c.loop-rater.rater in
+    let kept : length (put_mid (123 * c.loop-rater.rater) (123 * c.loop-rater.rater + 123 - 123 * c.loop-rater.rater) c.loop-rater.held c.read_scale-fault.new.scale) ≡ 1968 = let r = c.loop-rater.rater in
     let k : 123 * r + 123 - 123 * r ≡ 123 = omega arith in
     let long = c.loop-rater.invariant.1.long in
     let new = c.read_scale-fault.ensures.length in
-    rw k (same_len_mid (123 * r) 123 c.loop-rater.held c.read_scale-fault.new.start.1.0 (rw (length-take, length-drop) (omega (arith, few))) ∙ long) in
+    rw k (same_len_mid (123 * r) 123 c.loop-rater.held c.read_scale-fault.new.scale (rw (length-take, length-drop) (omega (arith, few))) ∙ long) in
     record {
       value = ends _ _ _ c.loop-rater.invariant.1 more _ fault_is c.if-fault-ne0.true;
       scales = λ z. absurd (c.if-fault-ne0.true z);
@@ -123,15 +123,15 @@ loop-rater-preserved c =
     let starts : c.start_of.result ≡ start_of book (suc c.loop-rater.rater) = c.start_of.ensures ∙ ap (λ (j : ℕ). start_of book j) (add-one c.loop-rater.rater) in
     let fault_is : c.read_scale-fault.result ≡ table_fault_lem (table_of_rater book (suc c.loop-rater.rater)) = c.read_scale-fault.ensures.value ∙ ap (λ (s : ℕ). table_fault_lem (table_from book s)) starts in
     let few : c.loop-rater.rater < 16 = omega (arith, more, c.loop-rater.invariant.1.laid.few) in
-    let kept : length (put_mid (123 * c.loop-rater.rater) (123 * c.loop-rater.rater + 123 - 123 * c.loop-rater.rater) c.loop-rater.held c.read_scale-fault.new.start.1.0) ≡ 1968 = let r = c.loop-rater.rater in
+    let kept : length (put_mid (123 * c.loop-rater.rater) (123 * c.loop-rater.rater + 123 - 123 * c.loop-rater.rater) c.loop-rater.held c.read_scale-fault.new.scale) ≡ 1968 = let r = c.loop-rater.rater in
     let k : 123 * r + 123 - 123 * r ≡ 123 = omega arith in
     let long = c.loop-rater.invariant.1.long in
     let new = c.read_scale-fault.ensures.length in
-    rw k (same_len_mid (123 * r) 123 c.loop-rater.held c.read_scale-fault.new.start.1.0 (rw (length-take, length-drop) (omega (arith, few))) ∙ long) in
+    rw k (same_len_mid (123 * r) 123 c.loop-rater.held c.read_scale-fault.new.scale (rw (length-take, length-drop) (omega (arith, few))) ∙ long) in
     let z = c.if-fault-ne0.false in (
       c.loop-rater.invariant.0,
       rw (add-one c.loop-rater.rater)
-          (goes _ _ _ c.loop-rater.invariant.1 more c.read_scale-fault.new.start.1.0 _ (sym fault_is ∙ z) (rw starts at (c.read_scale-fault.ensures.scale z)) kept),
+          (goes _ _ _ c.loop-rater.invariant.1 more c.read_scale-fault.new.scale _ (sym fault_is ∙ z) (rw starts at (c.read_scale-fault.ensures.scale z)) kept),
     )
 
 pub shape_of-held : goal.shape_of-held

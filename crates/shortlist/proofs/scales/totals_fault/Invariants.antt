@@ -1,11 +1,7 @@
 -- `totals_fault` meets its contract. The invariant: what is found is the fault of the raters from `rater` on.
-use Prim.Native.Nat.{◌-◌, ◌≤◌, ◌<◌}
+use Prim.Native.Nat.{◌-◌, ◌≤◌}
 use mathlib.Core.Path.{◌≡◌}
-use native.Mathlib.Omega.{arith}
-use borrow.Author.Rules.{rules}
-use lib.ListN.{length}
 use Rattle.shortlist.specs.Private.{held_of, totals_held, faults_from}
-use Rattle.shortlist.proofs.Held.{faults_end, faults_down}
 use Rattle.shortlist.proofs.scales.totals_fault.Given as goal
 
 abbrev pub invariant-loop-rater : goal.invariant-loop-rater

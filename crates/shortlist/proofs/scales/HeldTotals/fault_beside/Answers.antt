@@ -1,8 +1,5 @@
 -- `fault_beside` meets its contract: each way out has the number of the check that ends there.
-use mathlib.Core.Path.{◌≡◌, refl}
-use mathlib.Core.Bool.{cond}
 use borrow.Author.Tests.{eq-eqb, ne_eqb}
-use lib.Dec.{eqb}
 use Rattle.shortlist.specs.Private.{fault_beside_lem}
 use Rattle.shortlist.proofs.scales.HeldTotals.fault_beside.Goals as goal
 
@@ -23,15 +20,21 @@ returns-then-self-first c =
 pub returns-then-self-first-2 : goal.returns-then-self-first-2
 unfolding fault_beside_lem
 returns-then-self-first-2 c =
-    let behind_defaults : let a = c.args in cond (eqb a.self.survivors.0 a.first.survivors.0) 0 25 ≡ fault_beside_lem a.first a.self = let a = c.args in
-    rw (ne_eqb _ 0 c.if-self-eq0.false, ne_eqb _ 0 c.if-self-eq0-2.false, eq-eqb a.self.defaults a.first.defaults c.if-self-first.false) refl in
     let a = c.args in
-    rw (ne_eqb a.self.survivors.0 a.first.survivors.0 c.if-self-first-2.true) at behind_defaults
+    rw (
+      ne_eqb _ 0 c.if-self-eq0.false,
+      ne_eqb _ 0 c.if-self-eq0-2.false,
+      eq-eqb a.self.defaults a.first.defaults c.if-self-first.false,
+      ne_eqb a.self.survivors.0 a.first.survivors.0 c.if-self-first-2.true,
+    )
 
 pub returns : goal.returns
 unfolding fault_beside_lem
 returns c =
-    let behind_defaults : let a = c.args in cond (eqb a.self.survivors.0 a.first.survivors.0) 0 25 ≡ fault_beside_lem a.first a.self = let a = c.args in
-    rw (ne_eqb _ 0 c.if-self-eq0.false, ne_eqb _ 0 c.if-self-eq0-2.false, eq-eqb a.self.defaults a.first.defaults c.if-self-first.false) refl in
     let a = c.args in
-    rw (eq-eqb a.self.survivors.0 a.first.survivors.0 c.if-self-first-2.false) at behind_defaults
+    rw (
+      ne_eqb _ 0 c.if-self-eq0.false,
+      ne_eqb _ 0 c.if-self-eq0-2.false,
+      eq-eqb a.self.defaults a.first.defaults c.if-self-first.false,
+      eq-eqb a.self.survivors.0 a.first.survivors.0 c.if-self-first-2.false,
+    )
