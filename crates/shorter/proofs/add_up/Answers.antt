@@ -4,7 +4,6 @@ use mathlib.Core.Path.{◌≡◌, ◌∙◌}
 use mathlib.Core.List.{List}
 use native.Mathlib.Decide.{dec_le}
 use native.Mathlib.Omega.{arith}
-use borrow.Author.Rules.{rules}
 use lib.ListN.{length, get_or, set, drop, length-set}
 use lib.Seq.{get_or-set_same, get_or-set_other}
 use Rattle.table.specs.declared.Place.{Place}
@@ -29,7 +28,7 @@ record Stored (w w' : List ℕ) (a s d : ℕ) : Type 0 where
   pub defaulted_else : (h : ℕ) → h ≤ 40 → (h ≡ a → ⊥) → defaulted_from w' h ≡ defaulted_from w h
 
 stored : (w : List ℕ) (a s d : ℕ) → length w ≡ 82 → a ≤ 40 → Stored w (set (set w a s) (41 + a) d) a s d
-stored w a s d long few =    let v = set w a s in
+stored w a s d long few = let v = set w a s in
     let n : length v ≡ 82 = rw length-set long in
     record {
       long = rw length-set n;
@@ -50,7 +49,7 @@ module _ {place : List ℕ} {i : ℕ} {s : Survivors} {d : ℕ} {w : List ℕ} (
 
   more : {s' : Survivors} → s'.0 ≡ s.0 + y → Summed (place_in place) (i - 1) s' (d + x) (set (set w (i - 1) s'.0) (41 + (i - 1)) (d + x))
   unfolding survivors_in defaults_in
-  more {s'} sum =    let p = place_in place in
+  more {s'} sum = let p = place_in place in
       let survived : s'.0 ≡ survivors_in (suffix p (i - 1)) = rw t.down (omega (arith, m.survived, t.obligors, t.defaults)) in
       let defaulted : d + x ≡ defaults_in (suffix p (i - 1)) = rw t.down (omega (arith, m.defaulted, t.defaults)) in
       let new = stored w (i - 1) s'.0 (d + x) m.long (omega (arith, m.inside, t.few)) in
@@ -72,7 +71,7 @@ module _ {place : List ℕ} {i : ℕ} {s : Survivors} {d : ℕ} {w : List ℕ} (
 -- Behind the last grade there is nobody.
 none : (p : Place) (i : ℕ) (w : List ℕ) → i ≡ p.grades → i ≤ 40 → length w ≡ 82 → Summed p i (record { 0 = 0 }) 0 (set (set w i 0) (41 + i) 0)
 unfolding survivors_in defaults_in
-none p i w e few long =    let end = suffix_end p i (omega arith) in
+none p i w e few long = let end = suffix_end p i (omega arith) in
     let new = stored w i 0 0 long few in
     record {
       inside = omega arith;
@@ -85,11 +84,11 @@ none p i w e few long =    let end = suffix_end p i (omega arith) in
 
 suffix_drop : (p : Place) (i : ℕ) → i ≤ p.grades → drop i (table_of p) ≡ suffix p i
 unfolding turned_away
-suffix_drop p i h =    let e : length (table_of p) - (p.grades - i) ≡ i = omega (arith, length_grades p 0 p.grades) in
+suffix_drop p i h = let e : length (table_of p) - (p.grades - i) ≡ i = omega (arith, length_grades p 0 p.grades) in
     rw e at (turned_suffix p i h)
 
 all : {p : Place} {i : ℕ} {s : Survivors} {d : ℕ} {w : List ℕ} → Summed p i s d w → i ≡ 0 → Sums (table_of p) w
-all {p} m e =    let n = length_grades p 0 p.grades in
+all {p} m e = let n = length_grades p 0 p.grades in
     record {
       survived = λ h l. rw (suffix_drop p h (omega arith)) (m.survived_at h (omega arith) (omega arith));
       defaulted = λ h l. rw (suffix_drop p h (omega arith)) (m.defaulted_at h (omega arith) (omega arith));

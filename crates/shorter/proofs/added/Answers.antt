@@ -3,12 +3,11 @@ use Prim.Native.Nat.{ℕ, ◌+◌, ◌-◌, ◌≤◌}
 use mathlib.Core.List.{List}
 use native.Mathlib.Nat.{mul-le-mul}
 use native.Mathlib.Omega.{arith}
-use borrow.Author.Rules.{rules}
 use Rattle.shorter.specs.Private.{survived_from, defaulted_from, gain, Priced}
 use Rattle.shorter.proofs.added.Goals as goal
 
 few : {w v : List ℕ} {i e : ℕ} → Priced w v i e → gain w i e ≤ 2_000_000_000_000
-few {w} {v} {i} {e} p =    let n : survived_from w i - survived_from w e ≤ 1_000_000 = omega (arith, p.survived) in
+few {w} {v} {i} {e} p = let n : survived_from w i - survived_from w e ≤ 1_000_000 = omega (arith, p.survived) in
     let m : defaulted_from w i + defaulted_from w e ≤ 2_000_000 = omega (arith, p.defaulted, p.defaults) in
     mul-le-mul n m
 

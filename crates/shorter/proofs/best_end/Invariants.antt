@@ -1,9 +1,7 @@
 -- `best_end` meets its contract. The invariant: the ends up to e have been tried.
-use Prim.Native.Nat.{ℕ, suc, ◌+◌, ◌-◌, ◌≤◌, ◌<◌}
+use Prim.Native.Nat.{ℕ, suc, ◌-◌, ◌≤◌, ◌<◌}
 use mathlib.Core.Path.{◌≡◌}
-use native.Mathlib.Omega.{arith}
-use Rattle.shorter.specs.Private.{top_from, by, best_end_lem}
-use Rattle.shorter.proofs.Search.{top_one, top_taken, top_left}
+use Rattle.shorter.specs.Private.{top_from, by}
 use Rattle.shorter.proofs.best_end.Given as goal
 
 -- Up to e, the best end is `end`.

@@ -1,12 +1,8 @@
 -- `fill_rows` meets its contract. The invariant: row j stands, and the choices of the rows before it.
-use Prim.Native.Nat.{ℕ, ◌-◌, ◌<◌}
+use Prim.Native.Nat.{◌-◌}
 use mathlib.Core.Path.{◌≡◌}
-use mathlib.Core.List.{List}
 use native.Mathlib.Numerals.{add-one}
 use native.Mathlib.Omega.{arith}
-use Rattle.shorter.specs.declared.Size.{Size}
-use Rattle.shorter.specs.Private.{Values, Choices}
-use Rattle.shorter.proofs.fill_rows.Invariants.{Stands}
 use Rattle.shorter.proofs.fill_rows.Goals as goal
 
 pub last_runs-requires : goal.last_runs-requires
@@ -20,13 +16,10 @@ last_runs-requires c =
 pub loop-j-init : goal.loop-j-init
 loop-j-init c =
     record {
-  within = omega arith;
-  values = c.last_runs.ensures;
-  choices = record { long = c.requires.room.1; at = λ h i l need. absurd (omega arith) };
-}
-
-pub overflow_add-j : goal.overflow_add-j
-overflow_add-j c = let f = c.loop-j.invariant in omega arith
+      within = omega arith;
+      values = c.last_runs.ensures;
+      choices = record { long = c.requires.room.1; at = λ h i l need. absurd (omega arith) };
+    }
 
 pub next_row-requires : goal.next_row-requires
 next_row-requires c =
@@ -36,12 +29,6 @@ next_row-requires c =
       sums = pre.sums;
       rows = (w.values, w.choices);
     }
-
-pub overflow_add-j-in-loop-j : goal.overflow_add-j-in-loop-j
-overflow_add-j-in-loop-j c = omega arith
-
-pub loop-j-smaller : goal.loop-j-smaller
-loop-j-smaller c = omega arith
 
 pub loop-j-preserved : goal.loop-j-preserved
 loop-j-preserved c = record { within = omega arith; values = rw add-one c.next_row.ensures.values; choices = rw add-one c.next_row.ensures.choices }

@@ -1,9 +1,6 @@
 -- `fill_rows` meets its contract. The invariant: row j stands, and the choices of the rows before it.
 use Prim.Native.Nat.{ℕ, ◌-◌, ◌<◌}
-use mathlib.Core.Path.{◌≡◌}
 use mathlib.Core.List.{List}
-use native.Mathlib.Numerals.{add-one}
-use native.Mathlib.Omega.{arith}
 use Rattle.shorter.specs.declared.Size.{Size}
 use Rattle.shorter.specs.Private.{Values, Choices}
 use Rattle.shorter.proofs.fill_rows.Given as goal

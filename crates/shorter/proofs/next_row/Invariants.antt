@@ -1,7 +1,6 @@
 -- `next_row` meets its contract. The invariant: the row is filled before grade i.
 use Prim.Native.Nat.{◌-◌}
-use native.Mathlib.Omega.{arith}
-use Rattle.shorter.proofs.Rows.{Filling, priced, Next, next, filled, all_values, all_choices}
+use Rattle.shorter.proofs.Rows.{Filling}
 use Rattle.shorter.proofs.next_row.Given as goal
 
 abbrev pub invariant-loop-i : goal.invariant-loop-i

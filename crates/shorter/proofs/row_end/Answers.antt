@@ -1,6 +1,5 @@
 -- `row_end` meets its contract.
 use native.Mathlib.Omega.{arith}
-use borrow.Author.Rules.{rules}
 use Rattle.shorter.proofs.row_end.Goals as goal
 
 pub returns-else-j-size : goal.returns-else-j-size

@@ -1,26 +1,37 @@
 -- `shorten` meets its contract.
+use Prim.Native.Nat.{ℕ, ◌-◌, ◌≤◌}
 use mathlib.Core.Path.{◌≡◌, refl, ◌∙◌, sym}
-use native.Mathlib.Nat.{le_trans}
+use mathlib.Core.List.{List}
 use native.Mathlib.Omega.{arith}
-use borrow.Author.Rules.{rules}
 use lib.ListN.{length, drop}
 use mir.Syntax.{w64}
 use mir.Val.{SFits}
 use mir.ValLaws.{to_z-of_z}
-use Rattle.table.specs.Words.{place_in, table_in}
-use Rattle.table.proofs.Signed.{difference_fits}
+use Rattle.table.specs.Words.{place_in, table_in, HoldsTable}
 use Rattle.table.proofs.Suffix.{length_grades}
+use Rattle.shorter.specs.declared.Size.{Size}
+use Rattle.shorter.specs.Private.{Sums, Values, Choices}
 use Rattle.shorter.proofs.Answer.{falling, Searched, leads, small_value, small_pairs, best, value, kept}
 use Rattle.shorter.proofs.shorten.Goals as goal
+
+-- the grade count
+grades : (w : List ℕ) {k : ℕ} → k ≡ (place_in w).grades → k ≡ length (table_in w)
+grades w e = let p = place_in w in e ∙ sym (length_grades p 0 p.grades)
+
+-- What is known once the rows are filled.
+searched : {p w : List ℕ} {m k : ℕ} {v c : List ℕ} → let z : Size = record { runs = m; grades = k } in
+    HoldsTable p → Sums (table_in p) w → k ≡ length (table_in p) → 1 ≤ m → m ≤ length (table_in p)
+    → Values w z (m - 1) v → Choices w z (m - 1) c → Searched (table_in p) w z v c
+searched place sums is some few values choices =
+    record { sound = place.sound; sums = sums; is = is; range = (some, rw is few, rw is place.sound.few); values = values; choices = choices }
 
 pub grades_of-grades-requires : goal.grades_of-grades-requires
 grades_of-grades-requires c = c.requires.place.long
 
 pub fill_rows-requires : goal.fill_rows-requires
 fill_rows-requires c =
-    let grades : c.grades_of-grades.result ≡ length (table_in c.args.place.now) = let p = place_in c.args.place.now in c.grades_of-grades.ensures ∙ sym (length_grades p 0 p.grades) in
     let p = c.requires in
-    let is = grades in record {
+    let is = grades c.args.place.now c.grades_of-grades.ensures in record {
       size = (p.runs.0, rw is p.runs.1, rw is p.place.sound.few);
       sums = rw is (falling p.place.sound p.sums);
       room = (refl, refl);
@@ -28,70 +39,35 @@ fill_rows-requires c =
 
 pub write_ends-requires : goal.write_ends-requires
 write_ends-requires c =
-    let grades : c.grades_of-grades.result ≡ length (table_in c.args.place.now) = let p = place_in c.args.place.now in c.grades_of-grades.ensures ∙ sym (length_grades p 0 p.grades) in
-    let known : let a = c.args in Searched (table_in a.place.now) a.sums.now (record { runs = a.runs; grades = c.grades_of-grades.result }) c.fill_rows.new.values c.fill_rows.new.values.1.0 = let p = c.requires in
-    let is = grades in
-    record {
-      sound = p.place.sound;
-      sums = p.sums;
-      is = is;
-      range = (p.runs.0, rw is p.runs.1, rw is p.place.sound.few);
-      values = c.fill_rows.ensures.values;
-      choices = c.fill_rows.ensures.choices;
-    } in
     let p = c.requires in
-    let k = known in record {
-      size = (p.runs.0, p.runs.2, rw k.is p.place.sound.few);
+    let is = grades c.args.place.now c.grades_of-grades.ensures in
+    let k = searched p.place p.sums is p.runs.0 p.runs.1 c.fill_rows.ensures.values c.fill_rows.ensures.choices in record {
+      size = (p.runs.0, p.runs.2, rw is p.place.sound.few);
       choices = leads k;
     }
 
 pub overflow_mul-sums : goal.overflow_mul-sums
 overflow_mul-sums c =
-    let grades : c.grades_of-grades.result ≡ length (table_in c.args.place.now) = let p = place_in c.args.place.now in c.grades_of-grades.ensures ∙ sym (length_grades p 0 p.grades) in
-    let known : let a = c.args in Searched (table_in a.place.now) a.sums.now (record { runs = a.runs; grades = c.grades_of-grades.result }) c.fill_rows.new.values c.fill_rows.new.values.1.0 = let p = c.requires in
-    let is = grades in
-    record {
-      sound = p.place.sound;
-      sums = p.sums;
-      is = is;
-      range = (p.runs.0, rw is p.runs.1, rw is p.place.sound.few);
-      values = c.fill_rows.ensures.values;
-      choices = c.fill_rows.ensures.choices;
-    } in
-    omega (arith, small_pairs known)
+    let p = c.requires in
+    let is = grades c.args.place.now c.grades_of-grades.ensures in
+    let k = searched p.place p.sums is p.runs.0 p.runs.1 c.fill_rows.ensures.values c.fill_rows.ensures.choices in
+    omega (arith, small_pairs k)
 
 pub difference-requires : goal.difference-requires
 difference-requires c =
-    let grades : c.grades_of-grades.result ≡ length (table_in c.args.place.now) = let p = place_in c.args.place.now in c.grades_of-grades.ensures ∙ sym (length_grades p 0 p.grades) in
-    let known : let a = c.args in Searched (table_in a.place.now) a.sums.now (record { runs = a.runs; grades = c.grades_of-grades.result }) c.fill_rows.new.values c.fill_rows.new.values.1.0 = let p = c.requires in
-    let is = grades in
-    record {
-      sound = p.place.sound;
-      sums = p.sums;
-      is = is;
-      range = (p.runs.0, rw is p.runs.1, rw is p.place.sound.few);
-      values = c.fill_rows.ensures.values;
-      choices = c.fill_rows.ensures.choices;
-    } in
-    let k = known in omega (arith, small_value k, small_pairs k)
+    let p = c.requires in
+    let is = grades c.args.place.now c.grades_of-grades.ensures in
+    let k = searched p.place p.sums is p.runs.0 p.runs.1 c.fill_rows.ensures.values c.fill_rows.ensures.choices in
+    omega (arith, small_value k, small_pairs k)
 
 pub returns : goal.returns
 returns c =
-    let grades : c.grades_of-grades.result ≡ length (table_in c.args.place.now) = let p = place_in c.args.place.now in c.grades_of-grades.ensures ∙ sym (length_grades p 0 p.grades) in
-    let known : let a = c.args in Searched (table_in a.place.now) a.sums.now (record { runs = a.runs; grades = c.grades_of-grades.result }) c.fill_rows.new.values c.fill_rows.new.values.1.0 = let p = c.requires in
-    let is = grades in
-    record {
-      sound = p.place.sound;
-      sums = p.sums;
-      is = is;
-      range = (p.runs.0, rw is p.runs.1, rw is p.place.sound.few);
-      values = c.fill_rows.ensures.values;
-      choices = c.fill_rows.ensures.choices;
-    } in
     let a = c.args in
-    let k = known in
+    let p = c.requires in
+    let is = grades a.place.now c.grades_of-grades.ensures in
+    let k = searched p.place p.sums is p.runs.0 p.runs.1 c.fill_rows.ensures.values c.fill_rows.ensures.choices in
     let rest = drop a.runs a.out.now in
-    let fits : SFits w64 c.difference.result = record { sfits = c.difference.type-inv } in record {
+    let fits : SFits w64 c.difference.result = record { sfits = c.difference.type_inv } in record {
       ends = record { best = best k rest c.write_ends.ensures; kept = kept k rest c.write_ends.ensures };
       difference = to_z-of_z w64 _ fits ∙ c.difference.ensures ∙ value k rest c.write_ends.ensures;
     }

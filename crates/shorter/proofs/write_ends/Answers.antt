@@ -21,7 +21,7 @@ module _ {c : List ℕ} {m k : ℕ} {out₀ : List ℕ} {i at : ℕ} {out : List
   more : at + 1 < m → m ≤ length out₀
       → Written c m k out₀ (get_or c ((m - 2 - at) * 40 + i) 0) (at + 1) (set out at (get_or c ((m - 2 - at) * 40 + i) 0))
   unfolding ends_in
-  more h l =    let e = get_or c ((m - 2 - at) * 40 + i) 0 in
+  more h l = let e = get_or c ((m - 2 - at) * 40 + i) 0 in
       let r : m - 1 - (at + 1) ≡ m - 2 - at = omega arith in
       record {
         some = h;
@@ -33,7 +33,7 @@ module _ {c : List ℕ} {m k : ℕ} {out₀ : List ℕ} {i at : ℕ} {out : List
 
   last : m ≤ at + 1 → m ≤ length out₀ → set out at k ≡ ends_in c k (m - 1) 0 ++ drop m out₀
   unfolding ends_in
-  last h l =    let r : m - 1 - at ≡ 0 = omega (arith, w.some) in
+  last h l = let r : m - 1 - at ≡ 0 = omega (arith, w.some) in
       let n : m ≡ suc at = omega (arith, w.some) in
       let front : take m (set out at k) ≡ ends_in c k (m - 1) 0 = rw n (take-suc-set out at k (omega (arith, w.some, w.long))) ∙ rw r at w.ends in
       let back : drop m (set out at k) ≡ drop m out₀ = drop-set-lt m out at k w.some ∙ w.rest in
@@ -43,15 +43,6 @@ pub loop-at-init : goal.loop-at-init
 loop-at-init c =
     let z : c.args.size.runs - 1 - 0 ≡ c.args.size.runs - 1 = omega arith in
     record { some = omega arith; leads = rw z c.requires.choices; long = refl; ends = rw z; rest = refl }
-
-pub overflow_add-at : goal.overflow_add-at
-overflow_add-at c = let w = c.loop-at.invariant in omega arith
-
-pub overflow_sub-e : goal.overflow_sub-e
-overflow_sub-e c = omega arith
-
-pub overflow_sub-e-in-loop-at : goal.overflow_sub-e-in-loop-at
-overflow_sub-e-in-loop-at c = omega arith
 
 pub overflow_mul-e : goal.overflow_mul-e
 overflow_mul-e c = omega (arith, (next c.loop-at.invariant c.loop-at-test.true).0)
@@ -65,32 +56,11 @@ bounds-choices-runs c = omega (arith, (next c.loop-at.invariant c.loop-at-test.t
 pub overflow_cast-out : goal.overflow_cast-out
 overflow_cast-out c = omega (arith, (next c.loop-at.invariant c.loop-at-test.true).1)
 
-pub offset_bounds-out-at : goal.offset_bounds-out-at
-offset_bounds-out-at c = let w = c.loop-at.invariant in omega arith
-
-pub bounds-out-at : goal.bounds-out-at
-bounds-out-at c = let w = c.loop-at.invariant in omega arith
-
 pub overflow_cast-i : goal.overflow_cast-i
 overflow_cast-i c = omega (arith, (next c.loop-at.invariant c.loop-at-test.true).1)
 
-pub overflow_add-at-in-loop-at : goal.overflow_add-at-in-loop-at
-overflow_add-at-in-loop-at c = omega arith
-
-pub loop-at-smaller : goal.loop-at-smaller
-loop-at-smaller c = omega arith
-
 pub loop-at-preserved : goal.loop-at-preserved
 loop-at-preserved c = more c.loop-at.invariant c.loop-at-test.true c.requires.size.1
-
-pub overflow_cast-out-2 : goal.overflow_cast-out-2
-overflow_cast-out-2 c = omega arith
-
-pub offset_bounds-out-at-2 : goal.offset_bounds-out-at-2
-offset_bounds-out-at-2 c = let w = c.loop-at.invariant in omega arith
-
-pub bounds-out-at-2 : goal.bounds-out-at-2
-bounds-out-at-2 c = let w = c.loop-at.invariant in omega arith
 
 pub shape_of-out : goal.shape_of-out
 shape_of-out c = rw length-set c.loop-at.invariant.long
