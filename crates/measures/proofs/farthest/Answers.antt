@@ -29,9 +29,6 @@ farthest_is p i a b g h far e t =
     let all : length (table_of p) ≡ p.grades - i = omega (arith, length_grades p 0 p.grades) in
     rw (all, ← t.high, ← t.cutoff)
 
-pub grades_of-grades-requires : goal.grades_of-grades-requires
-grades_of-grades-requires c = c.requires.holds_table.long
-
 pub loop-i-init : goal.loop-i-init
 unfolding defaults_in survivors_in best
 loop-i-init c =
@@ -100,9 +97,6 @@ difference-height-requires c =
     more_diagonal pre.holds_table.sound f c.loop-i.invariant pre.all_defaults (omega (arith, c.survivors.ensures, c.obligors_at.ensures)) c.pairs_of-diagonal.ensures in
     let reached : Next (place_in c.args.place.now) c.loop-i.i (c.loop-i.curve + c.pairs_of-curve.result) (c.loop-i.diagonal + c.pairs_of-diagonal.result) = next c.requires.holds_table.sound c.loop-i-test.true at c.loop-i.invariant curve-is diagonal-is in
     let n = reached in (n.small_a, n.small_b)
-
-pub overflow_sub-cutoff : goal.overflow_sub-cutoff
-overflow_sub-cutoff c = omega arith
 
 pub overflow_cast-cutoff : goal.overflow_cast-cutoff
 overflow_cast-cutoff c =

@@ -3,6 +3,7 @@ use Prim.Native.Nat.{ℕ, ◌+◌, ◌-◌, ◌*◌, ◌≤◌}
 use mathlib.Core.Path.{◌≡◌, ap, ◌∙◌}
 use native.Mathlib.Nat.{mul-le-mul_left}
 use native.Mathlib.Omega.{arith}
+use borrow.Author.Rules.{rules}
 use lib.IntN.{ℤ, sub_ℕ}
 use mir.Syntax.{w64}
 use mir.Val.{SFits, of_z}
@@ -136,5 +137,5 @@ returns c =
     let top = c.farthest-top in
     let k = at in
     let z : SFits w64 c.difference.result = rw c.difference.ensures (difference_fits k.few_concordant k.few_discordant) in
-    let w : SFits w64 top.result.height = record { sfits = c.struct_told-1.given.1.0.1 } in
+    let w : SFits w64 top.result.height = search rules in
     measures_are k _ top.ensures _ _ (to_z-of_z w64 _ z ∙ c.difference.ensures) (to_z-of_z w64 _ w)

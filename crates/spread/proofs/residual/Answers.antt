@@ -163,17 +163,11 @@ quotient-sum-requires c =
       obligors_bound = m.2;
     }
 
-pub loop-at-smaller-then-not-shows : goal.loop-at-smaller-then-not-shows
-loop-at-smaller-then-not-shows c = omega (arith, c.loop-at-test.true)
-
 pub loop-at-preserved-then-not-shows : goal.loop-at-preserved-then-not-shows
 loop-at-preserved-then-not-shows c =
     let turn_at : (n : ℕ) → n ≡ get_or c.args.place.now (c.loop-at.at + 1) 0 → Turn c.args.place.now (122 + 3 * c.place_grades.result) c.loop-at.x c.loop-at.sum c.loop-at.at n = λ n of. turn _ c.requires _ _ _ _ n of c.loop-at-test.true c.loop-at.invariant _ refl in
     let is-fresh : New c.args.place.now (122 + 3 * c.place_grades.result) c.loop-at.sum c.loop-at.at c.obligors_at-obligors.result.0 = is_new (turn_at _ c.obligors_at-obligors.ensures) _ c.shows.ensures c.if-not-shows.true in
     is-fresh.then c.quotient-sum.result c.quotient-sum.ensures
-
-pub loop-at-smaller : goal.loop-at-smaller
-loop-at-smaller c = omega (arith, c.loop-at-test.true)
 
 pub loop-at-preserved : goal.loop-at-preserved
 loop-at-preserved c =
