@@ -1,10 +1,10 @@
 -- The number of a place: it is 1, 2 or neither, and then refused with 1 before every other check.
 use Prim.Native.Nat.{ℕ, zero, suc}
 use mathlib.Core.Path.{◌≡◌, sym, ◌∙◌}
-use mathlib.Core.Bool.{Bool, true, false, not}
+use mathlib.Core.Bool.{Bool, true, false}
 use native.Mathlib.Omega.{arith}
 use native.Mathlib.Decide.{dec_le}
-use borrow.Author.Tests.{eqb-true, not-true, not-false}
+use borrow.Author.Tests.{eqb-true}
 use lib.Dec.{eqb}
 use Rattle.book.specs.Checks.{fault, first_fault}
 use Rattle.book.proofs.Checks.{found, pass, over, stop}
@@ -37,15 +37,15 @@ number i =
 
 -- What the code found of the number i: b says whether there is such a place.
 
-pub there : (i : ℕ) (b : Bool) → b ≡ eqb (place_fault i) 0 → not b ≡ false → place_fault i ≡ 0
-there i b e h = eqb-true (place_fault i) 0 (sym e ∙ b h)
+pub there : (i : ℕ) (b : Bool) → b ≡ eqb (place_fault i) 0 → b ≡ true → place_fault i ≡ 0
+there i b e h = eqb-true (place_fault i) 0 (sym e ∙ h)
 
-missing_at : {i : ℕ} → Number i → (b : Bool) → b ≡ eqb (place_fault i) 0 → not b ≡ true → 1 ≡ place_fault i
+missing_at : {i : ℕ} → Number i → (b : Bool) → b ≡ eqb (place_fault i) 0 → b ≡ false → 1 ≡ place_fault i
 unfolding fault
-missing_at one b e h = let z : ◌≡◌ {A = ℕ} 0 1 = cc (e, b h) in absurd (omega arith)
-missing_at two b e h = let z : ◌≡◌ {A = ℕ} 0 1 = cc (e, b h) in absurd (omega arith)
+missing_at one b e h = let z : ◌≡◌ {A = ℕ} 0 1 = cc (e, h) in absurd (omega arith)
+missing_at two b e h = let z : ◌≡◌ {A = ℕ} 0 1 = cc (e, h) in absurd (omega arith)
 missing_at (neither _ _ k) b e h = sym k
 
 -- 1, before every other check
-pub missing : (i : ℕ) (b : Bool) (rest : ℕ) → b ≡ eqb (place_fault i) 0 → not b ≡ true → 1 ≡ first_fault (place_fault i) rest
+pub missing : (i : ℕ) (b : Bool) (rest : ℕ) → b ≡ eqb (place_fault i) 0 → b ≡ false → 1 ≡ first_fault (place_fault i) rest
 missing i b rest e h = stop rest (missing_at (number i) b e h) (λ z. omega arith)
