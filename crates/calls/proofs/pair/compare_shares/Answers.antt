@@ -1,10 +1,8 @@
 -- `compare_shares` meets its contract: both places answer with their totals, or their refusal is handed back; then the sizes are tested.
 use Prim.Native.Nat.{ℕ, ◌≤◌}
-use mathlib.Core.Logic.{⊎_elim}
+use mathlib.Core.Logic.{inl, inr}
 use mathlib.Core.List.{List, [], ◌∷◌}
 use native.Mathlib.Omega.{arith}
-use borrow.Author.Rules.{rules}
-use borrow.Author.Tests.{ltb-true, ltb-false}
 use Rattle.table.specs.Table.{Table, obligors_in}
 use Rattle.table.specs.declared.Totals.{Totals}
 use Rattle.table.specs.Words.{table_in}
@@ -14,6 +12,7 @@ use Rattle.shares.specs.Verdict.{IsVerdictByShares}
 use Rattle.shares.specs.Judge.{Shareable}
 use Rattle.calls.specs.Shares.{shares_fault, shares_checks}
 use Rattle.calls.proofs.Compared.{Taken, pair_refused, pair_taken, further}
+use Rattle.calls.proofs.pair.compare_shares.Goals.{In-Totals, Else-b-gt-OBLIGORS_ON_SHARES}
 use Rattle.calls.proofs.pair.compare_shares.Goals as goal
 
 -- 35, behind the checks of both comparisons
@@ -21,7 +20,7 @@ abbrev rest : Table → Table → List Check
 rest t₁ t₂ = at_most (obligors_in t₁) 100_000 35 ∷ at_most (obligors_in t₂) 100_000 35 ∷ []
 
 shareable : {w : List ℕ} {n : Totals} → Taken w n → obligors_in (table_in w) ≤ 100_000 → Shareable (table_in w)
-shareable t few =    let sound = t.answered.ready.holds.sound in
+shareable t few = let sound = t.answered.ready.holds.sound in
     record { sound = sound; mixed = record { counted = sound.counted; defaulted = t.defaulted; survived = t.survived }; few = few }
 
 pub returns-in_default : goal.returns-in_default
@@ -30,33 +29,34 @@ returns-in_default c =
     let v = c.args.first.now in
     let w = c.args.second.now in
     pair_refused v w _ c.both_totals-pair.ensures (IsVerdictByShares (table_in v) (table_in w)) (rest (table_in v) (table_in w)) _
-    c.enum_told-1.given.1
+    c.in_default.is
     c.refused.ensures
+
+taken : (c : In-Totals) → Taken c.args.first.now c.in-Totals.a × Taken c.args.second.now c.in-Totals.b
+taken c = pair_taken _ _ _ c.both_totals-pair.ensures c.requires.0 c.requires.1 c.in-Totals.is
 
 pub returns-then-a-gt-OBLIGORS_ON_SHARES : goal.returns-then-a-gt-OBLIGORS_ON_SHARES
 unfolding shares_fault shares_checks
 returns-then-a-gt-OBLIGORS_ON_SHARES c =
-    let b : Totals = c.pair-1.given.0.1.0 in
-    let a : Totals = c.pair-1.given.0.0 in
-    let taken : Taken c.args.first.now a × Taken c.args.second.now b = pair_taken _ _ _ c.both_totals-pair.ensures c.requires.0 c.requires.1 c.pair-1.given.1 in
-    let (s, t) = taken in (
+    let (s, t) = taken (goal.at.returns-then-a-gt-OBLIGORS_ON_SHARES c).In-Totals in (
       further s t
-          (⊎_elim
-          (λ w. over (omega (arith, w.taken, s.answered.obligors)))
-          (λ w. pass (omega (arith, w.0.left, s.answered.obligors)) (over (omega (arith, ltb-true 100_000 b.obligors.0 w.2.taken, t.answered.obligors))))
-          c.then-a-gt-OBLIGORS_ON_SHARES.branch),
+          (elim c.then-a-gt-OBLIGORS_ON_SHARES.either [
+            | inl more ↦ over (omega (arith, s.answered.obligors))
+            | inr (few, more) ↦ pass (omega (arith, s.answered.obligors)) (over (omega (arith, t.answered.obligors)))
+          ]),
       λ z. omega arith,
     )
 
+-- Both tables are small enough.
+both_few : (c : Else-b-gt-OBLIGORS_ON_SHARES) → (obligors_in (table_in c.args.first.now) ≤ 100_000) × (obligors_in (table_in c.args.second.now) ≤ 100_000)
+both_few c =
+    let (s, t) = taken (goal.at.judge-requires c).In-Totals in
+    (omega (arith, c.if-a-gt-OBLIGORS_ON_SHARES.false, s.answered.obligors), omega (arith, c.if-b-gt-OBLIGORS_ON_SHARES.false, t.answered.obligors))
+
 pub judge-requires : goal.judge-requires
 judge-requires c =
-    let a : Totals = c.pair-1.given.0.0 in
-    let b : Totals = c.pair-1.given.0.1.0 in
-    let taken : Taken c.args.first.now a × Taken c.args.second.now b = pair_taken _ _ _ c.both_totals-pair.ensures c.requires.0 c.requires.1 c.pair-1.given.1 in
-    let few : (obligors_in (table_in c.args.first.now) ≤ 100_000) × (obligors_in (table_in c.args.second.now) ≤ 100_000) = let (s, t) = taken in
-    (omega (arith, c.if-a-gt-OBLIGORS_ON_SHARES.false, s.answered.obligors), omega (arith, ltb-false 100_000 b.obligors.0 c.if-b-gt-OBLIGORS_ON_SHARES.false, t.answered.obligors)) in
-    let (s, t) = taken in
-    let n = few in record {
+    let (s, t) = taken (goal.at.judge-requires c).In-Totals in
+    let n = both_few c in record {
       tables = (s.answered.ready.holds, t.answered.ready.holds);
       shareable = (shareable s n.0, shareable t n.1);
       totals = (s.answered.totals, t.answered.totals);
@@ -65,11 +65,7 @@ judge-requires c =
 pub returns : goal.returns
 unfolding shares_fault shares_checks
 returns c =
-    let a : Totals = c.pair-1.given.0.0 in
-    let b : Totals = c.pair-1.given.0.1.0 in
-    let taken : Taken c.args.first.now a × Taken c.args.second.now b = pair_taken _ _ _ c.both_totals-pair.ensures c.requires.0 c.requires.1 c.pair-1.given.1 in
-    let few : (obligors_in (table_in c.args.first.now) ≤ 100_000) × (obligors_in (table_in c.args.second.now) ≤ 100_000) = let (s, t) = taken in
-    (omega (arith, c.if-a-gt-OBLIGORS_ON_SHARES.false, s.answered.obligors), omega (arith, ltb-false 100_000 b.obligors.0 c.if-b-gt-OBLIGORS_ON_SHARES.false, t.answered.obligors)) in
-    let (s, t) = taken in
-    let n = few in
+    let at = goal.at.returns c in
+    let (s, t) = taken at.In-Totals in
+    let n = both_few at.Else-b-gt-OBLIGORS_ON_SHARES in
     (further s t (pass n.0 (pass n.1 none)), c.judge.ensures)

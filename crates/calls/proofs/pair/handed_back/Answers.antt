@@ -1,9 +1,0 @@
--- `handed_back` meets its contract.
-use borrow.Author.Rules.{rules}
-use Rattle.calls.proofs.pair.handed_back.Goals as goal
-
-pub returns-in-Refused : goal.returns-in-Refused
-returns-in-Refused c = rw c.a-1.given.1
-
-pub returns-in-Totals : goal.returns-in-Totals
-returns-in-Totals c = rw c.a-in-Totals-1.given.1 tt
