@@ -1,6 +1,6 @@
 -- A place with its pooled list as words: the 242 numbers that a caller lends for it, those of its counts and then those of the list. What
 -- `place_in` and `table_in` read stands in the first 122, so that they are said of all 242.
-use Rattle.std.specs.Prelude.{ℕ, ◌≡◌, List, ◌++◌, length, take, drop}
+use Rattle.std.specs.Prelude.{ℕ, ◌≡◌, List, ◌++◌, take, drop}
 use Rattle.table.specs.Table.{Sound}
 use Rattle.table.specs.Words.{place_size, words_of, place_in, table_in}
 use Rattle.pooled_place.specs.declared.PooledPlace.{PooledPlace}

@@ -1,7 +1,7 @@
 -- Serves contracts of functions inside the library only: what is promised does not rest on it.
 -- The pooled scales of a book's raters as the code holds them, the fault of their totals, and the marks of the raters that are beaten. Raters are
 -- counted from 0 here.
-use Rattle.std.specs.Prelude.{ℕ, zero, suc, ◌-◌, ◌*◌, ◌≤◌, ◌<◌, min, ◌≡◌, Bool, true, false, cond, List, [], ◌∷◌, eqb, length, get_or, set, take, drop, replicate}
+use Rattle.std.specs.Prelude.{ℕ, zero, suc, ◌-◌, ◌*◌, ◌≤◌, ◌<◌, min, ◌≡◌, Bool, true, false, cond, List, eqb, length, get_or, set, take, drop, replicate}
 use Rattle.table.specs.Table.{Table, defaults_in, survivors_in}
 use Rattle.pooling.specs.Private.{block_words, spanning}
 use Rattle.book.specs.Layout.{raters}

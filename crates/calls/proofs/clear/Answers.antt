@@ -1,6 +1,5 @@
 -- `clear` meets its contract.
 use mathlib.Core.Path.{refl}
-use borrow.Author.Rules.{rules}
 use Rattle.calls.specs.Calls.{change_fault}
 use Rattle.calls.proofs.Asked.{empty_at, loaded_at}
 use Rattle.calls.proofs.clear.Goals as goal

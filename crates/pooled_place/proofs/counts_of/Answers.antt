@@ -1,6 +1,5 @@
 -- `counts_of` meets its contract.
 use mathlib.Core.Path.{sym}
-use borrow.Author.Rules.{rules}
 use Rattle.pooled_place.proofs.Words.{length_counts}
 use Rattle.pooled_place.proofs.counts_of.Goals as goal
 

@@ -1,5 +1,4 @@
 -- `list_of` meets its contract.
-use borrow.Author.Rules.{rules}
 use Rattle.pooled_place.proofs.Lists.{list_part}
 use Rattle.pooled_place.proofs.list_of.Goals as goal
 

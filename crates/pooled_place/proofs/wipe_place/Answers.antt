@@ -1,7 +1,6 @@
 -- `wipe_place` meets its contract.
 use Prim.Native.Nat.{ℕ}
 use mathlib.Core.Path.{ap, ◌∙◌}
-use borrow.Author.Rules.{rules}
 use lib.ListN.{replicate}
 use Rattle.pooled_place.proofs.wipe_place.Goals as goal
 

@@ -1,11 +1,8 @@
 -- `column_at` meets its contract. The invariant: i numbers of the column are there, and zeros behind them.
-use Prim.Native.Nat.{ℕ, suc, ◌+◌, ◌-◌, ◌≤◌}
-use mathlib.Core.Path.{◌≡◌, refl, sym, ap, ◌∙◌}
-use mathlib.Core.List.{List, ◌++◌, append-nil}
-use native.Mathlib.Omega.{arith}
-use borrow.Author.Rules.{rules}
-use lib.ListN.{get_or, take, drop, replicate, length-drop}
-use lib.Seq.{set_at, append_snoc, take-suc, get_or-drop, length-take-le}
+use Prim.Native.Nat.{◌-◌, ◌≤◌}
+use mathlib.Core.Path.{◌≡◌}
+use mathlib.Core.List.{◌++◌}
+use lib.ListN.{take, drop, replicate}
 use Rattle.table.proofs.column_at.Given as goal
 
 abbrev pub invariant-loop-i : goal.invariant-loop-i

@@ -1,7 +1,6 @@
 -- `difference` meets its contract: both numbers, and so their difference, are far from the ends of 64 bits.
 use mathlib.Core.Path.{◌≡◌, ◌∙◌}
 use native.Mathlib.Omega.{arith}
-use borrow.Author.Rules.{rules}
 use lib.IntN.{◌-ℤ◌, sub_ℕ}
 use mir.Syntax.{w64}
 use mir.Val.{SFits, to_z}

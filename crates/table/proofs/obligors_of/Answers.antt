@@ -1,18 +1,15 @@
 -- `obligors_of` meets its contract. The invariant: the sum, and that of the grades from grade i on, are all.
-use Prim.Native.Nat.{ℕ, ◌+◌, ◌-◌, ◌≤◌, ◌<◌}
+use Prim.Native.Nat.{ℕ, ◌+◌, ◌≤◌, ◌<◌}
 use mathlib.Core.Path.{◌≡◌, refl, ap}
 use native.Mathlib.Nat.{zero-add}
 use native.Mathlib.Omega.{arith}
 use mathlib.Core.List.{List}
 use lib.ListN.{length, get_or}
-use Rattle.table.specs.declared.Place.{Place}
-use Rattle.table.specs.declared.Obligors.{Obligors}
 use Rattle.table.specs.Table.{Table, obligors_in}
-use Rattle.table.specs.Place.{grade_at, table_of}
+use Rattle.table.specs.Place.{grade_at}
 use Rattle.table.specs.Words.{place_in, table_in, HoldsTable}
 use Rattle.table.proofs.Suffix.{suffix, suffix_all, suffix_at, suffix_end}
 use Rattle.table.proofs.Words.{column-at, few_in}
-use Rattle.table.proofs.obligors_of.Invariants.{Summed}
 use Rattle.table.proofs.obligors_of.Goals as goal
 
 -- A turn: where the count stands, and what it is of the sum.
@@ -23,7 +20,7 @@ record Turn (w : List ℕ) (i n : ℕ) : Type 0 where
 
 turn : (w : List ℕ) → HoldsTable w → (i n : ℕ) → i < (place_in w).grades → n + obligors_in (suffix (place_in w) i) ≡ obligors_in (table_in w) → Turn w i n
 unfolding obligors_in
-turn w h i n less e =    let p = place_in w in
+turn w h i n less e = let p = place_in w in
     let here : get_or w i 0 ≡ (grade_at p i).obligors = rw zero-add at (column-at w 0 i (omega (arith, few_in h))) in
     let down = ap (λ (t : Table). obligors_in t) (suffix_at p i less) in
     record {

@@ -1,17 +1,12 @@
 -- `obligors_of` meets its contract. The invariant: the sum, and that of the grades from grade i on, are all.
-use Prim.Native.Nat.{ℕ, ◌+◌, ◌-◌, ◌≤◌, ◌<◌}
-use mathlib.Core.Path.{◌≡◌, refl, ap}
-use native.Mathlib.Nat.{zero-add}
-use native.Mathlib.Omega.{arith}
-use mathlib.Core.List.{List}
-use lib.ListN.{length, get_or}
+use Prim.Native.Nat.{ℕ, ◌+◌, ◌-◌, ◌≤◌}
+use mathlib.Core.Path.{◌≡◌}
 use Rattle.table.specs.declared.Place.{Place}
 use Rattle.table.specs.declared.Obligors.{Obligors}
-use Rattle.table.specs.Table.{Table, obligors_in}
-use Rattle.table.specs.Place.{grade_at, table_of}
-use Rattle.table.specs.Words.{place_in, table_in, HoldsTable}
-use Rattle.table.proofs.Suffix.{suffix, suffix_all, suffix_at, suffix_end}
-use Rattle.table.proofs.Words.{column-at, few_in}
+use Rattle.table.specs.Table.{obligors_in}
+use Rattle.table.specs.Place.{table_of}
+use Rattle.table.specs.Words.{place_in}
+use Rattle.table.proofs.Suffix.{suffix}
 use Rattle.table.proofs.obligors_of.Given as goal
 
 pub record Summed (p : Place) (i : ℕ) (n : Obligors) : Type 0 where

@@ -1,10 +1,9 @@
 -- `put_numbers` meets its contract. The invariant: i of the numbers are stored.
-use Prim.Native.Nat.{suc, ◌+◌, ◌-◌, ◌≤◌}
+use Prim.Native.Nat.{suc, ◌+◌}
 use mathlib.Core.Path.{◌≡◌, refl}
 use native.Mathlib.Omega.{arith}
-use borrow.Author.Rules.{rules}
 use lib.ListN.{length, length-set}
-use lib.Seq.{paste, paste-zero, paste-suc}
+use lib.Seq.{paste-zero, paste-suc}
 use Rattle.table.proofs.put_numbers.Goals as goal
 
 pub loop-i-init : goal.loop-i-init

@@ -1,17 +1,13 @@
 -- `totals_of` meets its contract. The invariant: the sums are those of the grades from grade i on.
-use Prim.Native.Nat.{ℕ, ◌≤◌}
 use mathlib.Core.Path.{◌≡◌}
 use native.Mathlib.Omega.{arith}
 use borrow.Author.Rules.{rules}
-use Rattle.table.specs.declared.Place.{Place}
-use Rattle.table.specs.declared.Obligors.{Obligors}
 use Rattle.table.specs.declared.Totals.{Totals}
 use Rattle.table.specs.Table.{Table, defaults_in, survivors_in, obligors_in}
 use Rattle.table.specs.Words.{place_in}
 use Rattle.table.specs.Counts.{totals_of_lem}
-use Rattle.table.proofs.Suffix.{suffix, suffix_all, suffix_end, small}
+use Rattle.table.proofs.Suffix.{suffix_all, suffix_end, small}
 use Rattle.table.proofs.Words.{Turn, turn}
-use Rattle.table.proofs.totals_of.Invariants.{Summed}
 use Rattle.table.proofs.totals_of.Goals as goal
 
 totals_are : (t : Table) (r : Totals) → r.defaults ≡ defaults_in t → r.survivors.0 ≡ survivors_in t → r.obligors.0 ≡ obligors_in t → r ≡ totals_of_lem t

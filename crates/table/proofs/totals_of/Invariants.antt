@@ -1,16 +1,11 @@
 -- `totals_of` meets its contract. The invariant: the sums are those of the grades from grade i on.
 use Prim.Native.Nat.{ℕ, ◌≤◌}
 use mathlib.Core.Path.{◌≡◌}
-use native.Mathlib.Omega.{arith}
-use borrow.Author.Rules.{rules}
 use Rattle.table.specs.declared.Place.{Place}
 use Rattle.table.specs.declared.Obligors.{Obligors}
-use Rattle.table.specs.declared.Totals.{Totals}
-use Rattle.table.specs.Table.{Table, defaults_in, survivors_in, obligors_in}
+use Rattle.table.specs.Table.{defaults_in, obligors_in}
 use Rattle.table.specs.Words.{place_in}
-use Rattle.table.specs.Counts.{totals_of_lem}
-use Rattle.table.proofs.Suffix.{suffix, suffix_all, suffix_end, small}
-use Rattle.table.proofs.Words.{Turn, turn}
+use Rattle.table.proofs.Suffix.{suffix}
 use Rattle.table.proofs.totals_of.Given as goal
 
 pub record Summed (p : Place) (i defaults : ℕ) (n : Obligors) : Type 0 where

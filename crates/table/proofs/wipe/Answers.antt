@@ -1,7 +1,6 @@
 -- `wipe` meets its contract.
 use Prim.Native.Nat.{ℕ}
 use mathlib.Core.Path.{ap, ◌∙◌}
-use borrow.Author.Rules.{rules}
 use lib.ListN.{replicate}
 use Rattle.table.proofs.wipe.Goals as goal
 

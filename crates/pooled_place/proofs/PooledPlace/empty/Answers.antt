@@ -1,5 +1,4 @@
 -- `PooledPlace::empty` meets its contract.
-use borrow.Author.Rules.{rules}
 use Rattle.pooled_place.proofs.PooledPlace.empty.Goals as goal
 
 pub returns : goal.returns

@@ -1,5 +1,4 @@
 -- `PooledPlace::words` meets its contract.
-use borrow.Author.Rules.{rules}
 use Rattle.pooled_place.proofs.Words.{sound_place, words_stored}
 use Rattle.pooled_place.proofs.PooledPlace.words.Goals as goal
 

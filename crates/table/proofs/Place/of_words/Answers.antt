@@ -1,5 +1,4 @@
 -- `of_words` meets its contract: each column is read, and the two numbers behind them.
-use borrow.Author.Rules.{rules}
 use Rattle.table.proofs.Place.of_words.Goals as goal
 
 pub returns : goal.returns

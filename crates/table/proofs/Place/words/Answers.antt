@@ -1,6 +1,5 @@
 -- `words` meets its contract: the columns are stored one behind the other, and then the two numbers behind them.
 use native.Mathlib.Omega.{arith}
-use borrow.Author.Rules.{rules}
 use Rattle.table.proofs.Words.{few_grades, long_place, words_put}
 use Rattle.table.proofs.Place.words.Goals as goal
 
