@@ -1,6 +1,5 @@
 -- `desk_compare_shares` meets its contract.
 use mathlib.Core.Path.{refl, ◌∙◌}
-use borrow.Author.Rules.{rules}
 use Rattle.calls.specs.Answers.{compare_says}
 use Rattle.calls.specs.Shares.{ComparedByShares}
 use Rattle.desk.proofs.Asked.{both_places, of_both}
@@ -18,10 +17,9 @@ pub returns : goal.returns
 returns c =
     let i = c.requires in
     let w = c.args.desk.now in
-    let r = compare_says c.compare_shares.result in (
-      i.exact,
-      left_verdict c.args.answer.now (VerdictOnShares w) r
-          (of_both _ i.sound (c.words_at.ensures ∙ words-of i 1 0 refl) (c.words_at-2.ensures ∙ words-of i 2 242 refl)
-          (λ p q. ComparedByShares p q r) c.compare_shares.ensures)
-          c.put_verdict.ensures.value c.put_verdict.ensures.answer_after,
-    )
+    let r = compare_says c.compare_shares.result in
+    let v = left_verdict c.args.answer.now (VerdictOnShares w) r
+    (of_both _ i.sound (c.words_at.ensures ∙ words-of i 1 0 refl) (c.words_at-2.ensures ∙ words-of i 2 242 refl)
+    (λ p q. ComparedByShares p q r) c.compare_shares.ensures)
+    c.put_verdict.ensures.value c.put_verdict.ensures.answer_after in
+    record { desk = i.exact; value = v.0; left = v.1 }

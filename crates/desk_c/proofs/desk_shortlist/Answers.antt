@@ -1,6 +1,5 @@
 -- `desk_shortlist` meets its contract.
 use mathlib.Core.Path.{refl, sym, ap, ◌∙◌}
-use borrow.Author.Rules.{rules}
 use Rattle.desk.specs.Answers.{shortlisted_says}
 use Rattle.desk_c.proofs.Answered.{accepted_is, kept}
 use Rattle.desk_c.proofs.desk_shortlist.Goals as goal
@@ -8,7 +7,7 @@ use Rattle.desk_c.proofs.desk_shortlist.Goals as goal
 pub returns-in-Count : goal.returns-in-Count
 returns-in-Count c =
     let s = c.shortlist-answered.ensures in
-    let e = accepted_is _ _ (ap shortlisted_says (sym c.answered-1.given.1) ∙ s.returns) in record {
+    let e = accepted_is _ _ (ap shortlisted_says (sym c.in-Count.is) ∙ s.returns) in record {
       desk = refl;
       value = e.0;
       numbers_after = s.out_after;
@@ -18,7 +17,7 @@ returns-in-Count c =
 pub returns-in-Refused : goal.returns-in-Refused
 returns-in-Refused c =
     let s = c.shortlist-answered.ensures in
-    let e = kept _ _ _ _ _ (ap shortlisted_says (sym c.answered-in-Refused-1.given.1) ∙ s.returns) in record {
+    let e = kept _ _ _ _ _ (ap shortlisted_says (sym c.in-Refused.is) ∙ s.returns) in record {
       desk = refl;
       value = e.0;
       numbers_after = s.out_after;
