@@ -1,6 +1,6 @@
 -- `band` meets its contract. The invariant: the band is at most b.
-use Prim.Native.Nat.{◌-◌, ◌≤◌}
-use mathlib.Core.Path.{◌≡◌}
+use Prim.Native.Nat.{ℕ, ◌-◌, ◌*◌, ◌≤◌, ◌<◌}
+use mathlib.Core.Path.{◌≡◌, subst}
 use native.Mathlib.Nat.{mul-le-mul_left, pow-le-pow_right}
 use native.Mathlib.Omega.{arith}
 use borrow.Author.Rules.{rules}
@@ -40,7 +40,7 @@ overflow_mul-limits c =
 pub returns-then-limits-b : goal.returns-then-limits-b
 returns-then-limits-b c =
     let limit : get_or c.args.limits.now (c.loop-b.b - 1) 0 ≡ band_limit (c.loop-b.b - 1) = rw c.requires.limits (limits_right.1 (c.loop-b.b - 1) (omega arith)) in
-    let below = rw limit at c.if-limits-b.true in
+    let below = subst (λ (x : ℕ). x * c.args.self.obligors.0 < c.args.self.defaults * 1_000_000) limit c.if-limits-b.true in
     omega (arith, band_above c.args.self (c.loop-b.b - 1) (omega arith) (omega arith))
 
 pub overflow_sub-b-in-loop-b : goal.overflow_sub-b-in-loop-b
@@ -52,7 +52,7 @@ loop-b-smaller c = omega arith
 pub loop-b-preserved : goal.loop-b-preserved
 loop-b-preserved c =
     let limit : get_or c.args.limits.now (c.loop-b.b - 1) 0 ≡ band_limit (c.loop-b.b - 1) = rw c.requires.limits (limits_right.1 (c.loop-b.b - 1) (omega arith)) in
-    let within = rw limit at c.if-limits-b.false in
+    let within = subst (λ (x : ℕ). c.args.self.defaults * 1_000_000 ≤ x * c.args.self.obligors.0) limit c.if-limits-b.false in
     (band_at_most c.args.self (c.loop-b.b - 1) (omega arith), omega arith)
 
 pub returns : goal.returns
