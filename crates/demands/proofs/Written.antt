@@ -3,10 +3,10 @@ use Prim.Native.Nat.{ℕ, ◌≤◌}
 use mathlib.Core.Path.{◌≡◌, refl, sym, ◌∙◌}
 use mathlib.Core.List.{List, []}
 use native.Mathlib.Omega.{arith}
-use lib.ListN.{length, take, drop}
+use lib.ListN.{length, take}
 use lib.Seq.{take_at}
 use Rattle.table.specs.Table.{Table}
-use Rattle.book.specs.Encode.{book_size, encode}
+use Rattle.book.specs.Encode.{encode}
 use Rattle.book.specs.Reading.{all_tables}
 use Rattle.book.specs.Writing.{write_fault, buffer_or}
 use Rattle.book.proofs.Books.{length-encode}

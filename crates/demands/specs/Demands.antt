@@ -1,6 +1,6 @@
 -- The customer's three demands, each sentence by a name, over all calls and all lists of calls from a fresh desk.
 -- The contract of `demands` in src/lib.rt is all of them, so that the crate is refused where one is not proved.
-use Rattle.std.specs.Prelude.{ℕ, ◌-◌, ◌≤◌, ◌<◌, ◌≡◌, false, ◌↔◌, ◌⊎◌, List, [], ◌∷◌, ◌++◌, length, drop, take, get_or}
+use Rattle.std.specs.Prelude.{ℕ, ◌-◌, ◌≤◌, ◌<◌, ◌≡◌, false, ◌↔◌, ◌⊎◌, List, [], ◌++◌, length, drop, take, get_or}
 use Rattle.table.specs.Table.{Table, Every, Sound, Mixed, occupied, defaults_in, survivors_in, obligors_in}
 use Rattle.table.specs.Place.{blank}
 use Rattle.book.specs.Bytes.{Byte}

@@ -29,48 +29,48 @@ pub returns : goal.returns
 returns c =
     let entry_points : EveryCallIsServed = served in
     record {
-  every_desk_is_sound = desk_sound;
-  places_hold_what_was_loaded = places_hold;
-  kept_lists_are_pooled = lists_pooled;
-  events_change_one_grade = (announced_kept, others-kept-by-events, length-after);
-  every_held_table_is_sound = tables_sound;
-  announced_rates_never_fall = rates_never_fall;
-  calls_leave_images = λ calls. is_image (desk_after_lem calls) (desk_sound calls);
-  every_call_is_answered = answered;
-  load_tells_wrong_cuts = load_tells;
-  load_means_wrong_cuts = load_means;
-  five_is_never_given = never_five;
-  load_takes_sound_tables = load_takes;
-  load_means_all_empty = load_means_empty;
-  load_tells_falls = load_tells_fall;
-  load_means_falls = load_means_fall;
-  questions_are_of_tables = asked_sound;
-  refusals_change_nothing = refused_kept;
-  only_what_is_written_changes = written_only;
-  what_is_written_is_given = written_given;
-  other_places_are_kept = others_kept;
-  books_go_both_ways = (reading.accepted, round_trip, written_again);
-  written_books_load_back = loads_back;
-  loaded_books_write_back = writes_back;
-  measures_are_published = (
-    (measures.claimed).roc_is_the_area,
-    (measures.claimed).cap_is_the_area,
-    (measures.claimed).gini_is_the_difference_of_probabilities,
-    (measures.claimed).gini_is_the_ratio_of_areas,
-    (measures.claimed).pietra_is_the_largest_distance,
-    (measures.claimed).brier_is_the_mean_squared_difference,
-  );
-  measured_tables_are_mixed = measured_mixed;
-  pool_writes_the_regression = regression_written;
-  pool_repeats_for_empty_grades = repeats_written;
-  compare_is_right = compare_right;
-  compare_shares_is_right = shares_right;
-  comparisons_agree = agree;
-  shortlist_is_right = shortlist_right;
-  shortlist_needs_no_desk = λ d e b out. (refl, refl, refl);
-  shortlisted_raters_are_compared = raters-compared;
-  every_table_has_one_cheapest_share = (cheapest-share, cheapest_shares_equal, share_costs_proper);
-  sizes_play_no_part = (multiples_equal, multiples_as_good, multiples_one_verdict);
-  every_table_has_one_cheapest_cost = (cheapest_is, cheapest_unique);
-  pooling_keeps_the_cheapest_cost = pooled_costs_same;
-}
+      every_desk_is_sound = desk_sound;
+      places_hold_what_was_loaded = places_hold;
+      kept_lists_are_pooled = lists_pooled;
+      events_change_one_grade = (announced_kept, others-kept-by-events, length-after);
+      every_held_table_is_sound = tables_sound;
+      announced_rates_never_fall = rates_never_fall;
+      calls_leave_images = λ calls. is_image (desk_after_lem calls) (desk_sound calls);
+      every_call_is_answered = answered;
+      load_tells_wrong_cuts = load_tells;
+      load_means_wrong_cuts = load_means;
+      five_is_never_given = never_five;
+      load_takes_sound_tables = load_takes;
+      load_means_all_empty = load_means_empty;
+      load_tells_falls = load_tells_fall;
+      load_means_falls = load_means_fall;
+      questions_are_of_tables = asked_sound;
+      refusals_change_nothing = refused_kept;
+      only_what_is_written_changes = written_only;
+      what_is_written_is_given = written_given;
+      other_places_are_kept = others_kept;
+      books_go_both_ways = (reading.accepted, round_trip, written_again);
+      written_books_load_back = loads_back;
+      loaded_books_write_back = writes_back;
+      measures_are_published = (
+        (measures.claimed).roc_is_the_area,
+        (measures.claimed).cap_is_the_area,
+        (measures.claimed).gini_is_the_difference_of_probabilities,
+        (measures.claimed).gini_is_the_ratio_of_areas,
+        (measures.claimed).pietra_is_the_largest_distance,
+        (measures.claimed).brier_is_the_mean_squared_difference,
+      );
+      measured_tables_are_mixed = measured_mixed;
+      pool_writes_the_regression = regression_written;
+      pool_repeats_for_empty_grades = repeats_written;
+      compare_is_right = compare_right;
+      compare_shares_is_right = shares_right;
+      comparisons_agree = agree;
+      shortlist_is_right = shortlist_right;
+      shortlist_needs_no_desk = λ d e b out. (refl, refl, refl);
+      shortlisted_raters_are_compared = raters-compared;
+      every_table_has_one_cheapest_share = (cheapest-share, cheapest_shares_equal, share_costs_proper);
+      sizes_play_no_part = (multiples_equal, multiples_as_good, multiples_one_verdict);
+      every_table_has_one_cheapest_cost = (cheapest_is, cheapest_unique);
+      pooling_keeps_the_cheapest_cost = pooled_costs_same;
+    }

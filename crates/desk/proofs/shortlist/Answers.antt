@@ -1,6 +1,5 @@
 -- `shortlist` meets its contract.
 use mathlib.Core.Path.{refl, ap, ◌∙◌}
-use borrow.Author.Rules.{rules}
 use Rattle.desk.specs.Answers.{shortlisted_says}
 use Rattle.desk.proofs.Asked.{says_listed}
 use Rattle.desk.proofs.shortlist.Goals as goal

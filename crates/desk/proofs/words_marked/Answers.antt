@@ -1,6 +1,5 @@
 -- `words_marked` meets its contract.
 use mathlib.Core.Path.{refl}
-use borrow.Author.Rules.{rules}
 use Rattle.desk.proofs.words_marked.Goals as goal
 
 pub returns-then-loaded : goal.returns-then-loaded

@@ -1,7 +1,6 @@
 -- `book_event` meets its contract.
 use mathlib.Core.Path.{refl, ap, ◌∙◌}
 use native.Mathlib.Omega.{arith}
-use borrow.Author.Rules.{rules}
 use Rattle.table.specs.declared.Place.{Place}
 use Rattle.table.specs.Place.{table_of}
 use Rattle.calls.specs.Answers.{leaves}

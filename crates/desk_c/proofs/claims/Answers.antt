@@ -21,6 +21,6 @@ told (Crossing q r) p = (λ e. rw e refl, λ e. rw e refl)
 pub returns : goal.returns
 returns c =
     record {
-  images_read_back = desk_back;
-  pairs_are_told_apart = told;
-}
+      images_read_back = desk_back;
+      pairs_are_told_apart = told;
+    }

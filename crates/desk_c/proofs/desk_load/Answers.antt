@@ -1,7 +1,6 @@
 -- `desk_load` meets its contract.
 use mathlib.Core.Path.{refl, ap, ◌∙◌}
 use native.Mathlib.Omega.{arith}
-use borrow.Author.Rules.{rules}
 use Rattle.calls.specs.Calls.{load}
 use Rattle.calls.proofs.Answered.{left_alone}
 use Rattle.desk.proofs.Number.{there, missing}

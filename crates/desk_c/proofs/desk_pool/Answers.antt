@@ -1,7 +1,6 @@
 -- `desk_pool` meets its contract.
 use mathlib.Core.Path.{◌≡◌, refl, ◌∙◌}
 use native.Mathlib.Omega.{arith}
-use borrow.Author.Rules.{rules}
 use Rattle.pooled_place.specs.Words.{pooled_place_words}
 use Rattle.calls.specs.Calls.{pool}
 use Rattle.calls.proofs.Answered.{left_alone}

@@ -1,6 +1,5 @@
 -- `of` meets its contract.
 use mathlib.Core.Path.{refl}
-use borrow.Author.Rules.{rules}
 use Rattle.calls.proofs.Answered.{refuses}
 use Rattle.desk.proofs.Ack.of.Goals as goal
 

@@ -2,7 +2,6 @@
 use Prim.Native.Nat.{ℕ}
 use mathlib.Core.Path.{ap, ◌∙◌}
 use native.Mathlib.Omega.{arith}
-use borrow.Author.Rules.{rules}
 use Rattle.table.specs.declared.Place.{Place}
 use Rattle.table.specs.Place.{table_of}
 use Rattle.pooled_place.specs.Words.{pooled_place_words}

@@ -2,7 +2,6 @@
 use Prim.Native.Nat.{ℕ}
 use mathlib.Core.Path.{◌∙◌, ap}
 use native.Mathlib.Omega.{arith}
-use borrow.Author.Rules.{rules}
 use Rattle.calls.specs.Answers.{answer}
 use Rattle.calls.specs.Calls.{clear}
 use Rattle.calls.proofs.Answered.{left_alone}

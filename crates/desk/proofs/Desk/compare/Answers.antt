@@ -1,6 +1,5 @@
 -- `compare` meets its contract.
 use mathlib.Core.Path.{refl}
-use borrow.Author.Rules.{rules}
 use Rattle.calls.specs.Answers.{compare_says}
 use Rattle.calls.specs.Calls.{Compared}
 use Rattle.desk.proofs.Asked.{both_places, of_both}

@@ -1,6 +1,5 @@
 -- `compare_shares` meets its contract.
 use mathlib.Core.Path.{refl}
-use borrow.Author.Rules.{rules}
 use Rattle.calls.specs.Answers.{compare_says}
 use Rattle.calls.specs.Shares.{ComparedByShares}
 use Rattle.desk.proofs.Asked.{both_places, of_both}

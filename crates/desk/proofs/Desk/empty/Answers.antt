@@ -1,6 +1,5 @@
 -- `empty` meets its contract.
 use mathlib.Core.Path.{◌≡◌, refl}
-use borrow.Author.Rules.{rules}
 use Rattle.pooled_place.specs.declared.PooledPlace.{PooledPlace}
 use Rattle.pooled_place.specs.PooledPlace.{fresh_pooled_place}
 use Rattle.desk.specs.declared.Desk.{Desk}

@@ -2,7 +2,6 @@
 use Prim.Native.Nat.{ℕ}
 use mathlib.Core.Path.{◌∙◌, ap, refl}
 use native.Mathlib.Omega.{arith}
-use borrow.Author.Rules.{rules}
 use Rattle.calls.specs.Answers.{answer}
 use Rattle.calls.specs.Calls.{pool}
 use Rattle.calls.proofs.Answered.{refuses, left_alone}

@@ -1,6 +1,5 @@
 -- `pooled_words` meets its contract.
 use mathlib.Core.Path.{◌∙◌, refl}
-use borrow.Author.Rules.{rules}
 use borrow.Author.Tests.{ne_eqb}
 use Rattle.desk.proofs.Desk.pooled_words.Goals as goal
 

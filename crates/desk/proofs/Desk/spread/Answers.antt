@@ -1,7 +1,6 @@
 -- `spread` meets its contract.
 use mathlib.Core.Path.{refl, sym}
 use native.Mathlib.Omega.{arith}
-use borrow.Author.Rules.{rules}
 use Rattle.table.specs.declared.Place.{Place}
 use Rattle.table.specs.Place.{table_of}
 use Rattle.spread.specs.Spread.{IsSpread}

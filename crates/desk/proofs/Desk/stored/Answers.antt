@@ -1,6 +1,5 @@
 -- `stored` meets its contract.
 use mathlib.Core.Path.{◌∙◌, refl}
-use borrow.Author.Rules.{rules}
 use Rattle.calls.proofs.Answered.{keeps}
 use Rattle.desk.proofs.Desk.stored.Goals as goal
 

@@ -1,7 +1,6 @@
 -- `write` meets its contract.
 use mathlib.Core.Path.{◌≡◌, refl, ◌∙◌, ap}
 use mathlib.Core.List.{List}
-use borrow.Author.Rules.{rules}
 use lib.ListN.{length}
 use Rattle.table.specs.declared.Place.{Place}
 use Rattle.table.specs.Table.{Table}
@@ -17,11 +16,10 @@ use Rattle.desk.proofs.Asked.{place_is, says_written}
 use Rattle.desk.proofs.Desk.write.Goals as goal
 
 pub write-requires : goal.write-requires
-write-requires c =
-    (
-      writable (rw c.words-first.ensures (is-place (sound_place c.requires.first))),
-      writable (rw c.words-second.ensures (is-place (sound_place c.requires.second))),
-    )
+write-requires c = (
+  writable (rw c.words-first.ensures (is-place (sound_place c.requires.first))),
+  writable (rw c.words-second.ensures (is-place (sound_place c.requires.second))),
+)
 
 pub returns : goal.returns
 returns c =

@@ -1,7 +1,6 @@
 -- `words_at` meets its contract.
 use Prim.Native.Nat.{ℕ}
 use mathlib.Core.Path.{ap}
-use borrow.Author.Rules.{rules}
 use lib.ListN.{take, drop}
 use Rattle.desk_c.proofs.Parts.{span}
 use Rattle.desk_c.proofs.image.words_at.Goals as goal
