@@ -113,8 +113,12 @@ def main(argv):
                 out.append(turn(code) + TOKEN.sub(lambda m: new.get(m.group(), m.group()) if "-" not in m.group() else m.group(), comment))
         return "".join(out)
 
+    def edit(text):
+        # what says the slip and what refuses it stays
+        return "".join(turn(line) if re.match("(old|new):", line) else line for line in text.splitlines(keepends=True))
+
     for p, t in texts.items():
-        to = antt(t) if p.endswith(".antt") else turn(t)
+        to = antt(t) if p.endswith(".antt") else edit(t) if p.endswith(".edit") else turn(t)
         if to != t:
             with open(p, "w", encoding="utf-8") as f:
                 f.write(to)
