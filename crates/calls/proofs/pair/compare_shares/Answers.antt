@@ -12,7 +12,7 @@ use Rattle.shares.specs.Verdict.{IsVerdictByShares}
 use Rattle.shares.specs.Judge.{Shareable}
 use Rattle.calls.specs.Shares.{shares_fault, shares_checks}
 use Rattle.calls.proofs.Compared.{Taken, pair_refused, pair_taken, further}
-use Rattle.calls.proofs.pair.compare_shares.Goals.{In-Totals, Else-b-gt-OBLIGORS_ON_SHARES}
+use Rattle.calls.proofs.pair.compare_shares.Goals.{In-Totals}
 use Rattle.calls.proofs.pair.compare_shares.Goals as goal
 
 -- 35, behind the checks of both comparisons
@@ -47,25 +47,21 @@ returns-then-a-gt-OBLIGORS_ON_SHARES c =
       λ z. omega arith,
     )
 
--- Both tables are small enough.
-both_few : (c : Else-b-gt-OBLIGORS_ON_SHARES) → (obligors_in (table_in c.args.first.now) ≤ 100_000) × (obligors_in (table_in c.args.second.now) ≤ 100_000)
-both_few c =
-    let (s, t) = taken (goal.at.judge-requires c).In-Totals in
-    (omega (arith, c.if-a-gt-OBLIGORS_ON_SHARES.false, s.answered.obligors), omega (arith, c.if-b-gt-OBLIGORS_ON_SHARES.false, t.answered.obligors))
-
+-- Both tables are small enough, which `omega` reads off the tests.
 pub judge-requires : goal.judge-requires
 judge-requires c =
     let (s, t) = taken (goal.at.judge-requires c).In-Totals in
-    let n = both_few c in record {
+    let few₁ : obligors_in (table_in c.args.first.now) ≤ 100_000 = omega (arith, s.answered.obligors) in
+    let few₂ : obligors_in (table_in c.args.second.now) ≤ 100_000 = omega (arith, t.answered.obligors) in record {
       tables = (s.answered.ready.holds, t.answered.ready.holds);
-      shareable = (shareable s n.0, shareable t n.1);
+      shareable = (shareable s few₁, shareable t few₂);
       totals = (s.answered.totals, t.answered.totals);
     }
 
 pub returns : goal.returns
 unfolding shares_fault shares_checks
 returns c =
-    let at = goal.at.returns c in
-    let (s, t) = taken at.In-Totals in
-    let n = both_few at.Else-b-gt-OBLIGORS_ON_SHARES in
-    (further s t (pass n.0 (pass n.1 none)), c.judge.ensures)
+    let (s, t) = taken (goal.at.returns c).In-Totals in
+    let few₁ : obligors_in (table_in c.args.first.now) ≤ 100_000 = omega (arith, s.answered.obligors) in
+    let few₂ : obligors_in (table_in c.args.second.now) ≤ 100_000 = omega (arith, t.answered.obligors) in
+    (further s t (pass few₁ (pass few₂ none)), c.judge.ensures)
