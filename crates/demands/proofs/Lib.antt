@@ -4,7 +4,6 @@ pub mod Loads
 pub mod Kept
 pub mod Written
 pub mod EntryPoints
-pub mod Served
 pub mod Accepted
 pub mod Verdicts
 pub mod Shortlists

@@ -32,6 +32,7 @@ use Rattle.desk.specs.Calls.{Call, ask, fill, write, shortlist, change, number_o
 use Rattle.desk.specs.Calls.{Returns, Compares, ComparesByShares}
 use Rattle.desk_c.specs.Image.{image_of, IsImage}
 use Rattle.demands.specs.History.{desk_after_lem, nothing, table, filled, held, placed, numbers, lending, Keeps}
+use Rattle.demands.specs.EntryPoints.{ServedInC, ServedByDesk}
 
 -- What calls leave.
 
@@ -71,6 +72,11 @@ abbrev pub CallsLeaveImages : Type 0
 CallsLeaveImages = (calls : List Call) → IsImage (image_of (desk_after_lem calls))
 
 -- Demand 1.
+
+-- No call of the model is without its entry points, in the library for C and of the desk, and by their contracts its number, desk, buffer and count
+-- are the model's.
+abbrev pub EveryCallIsServed : Type 0
+EveryCallIsServed = (c : Call) → ServedInC c × ServedByDesk c
 
 -- "Every input to any entry point ends in a result or one of its refusal numbers."
 abbrev pub EveryCallIsAnswered : Type 0
@@ -286,6 +292,7 @@ pub record Demands : Type 0 where
   pub every_held_table_is_sound : EveryHeldTableIsSound
   pub announced_rates_never_fall : AnnouncedRatesNeverFall
   pub calls_leave_images : CallsLeaveImages
+  pub every_call_is_served : EveryCallIsServed
   pub every_call_is_answered : EveryCallIsAnswered
   pub load_tells_wrong_cuts : LoadTellsWrongCuts
   pub load_means_wrong_cuts : LoadMeansWrongCuts

@@ -1,4 +1,8 @@
 pub mod History
+pub mod Promise
+pub mod InC
+pub mod ByDesk
+pub mod EntryPoints
 pub mod Demands
 pub mod Worked
 pub mod Orders

@@ -17,8 +17,7 @@ use Rattle.demands.proofs.Faults.{answered, never_five}
 use Rattle.demands.proofs.Loads.{load_tells, load_means, load_takes, load_means_empty, load_tells_fall, load_means_fall}
 use Rattle.demands.proofs.Kept.{refused_kept, written_only, others_kept}
 use Rattle.demands.proofs.Written.{written_given}
-use Rattle.demands.proofs.EntryPoints.{EveryCallIsServed}
-use Rattle.demands.proofs.Served.{served}
+use Rattle.demands.proofs.EntryPoints.{served}
 use Rattle.demands.proofs.Accepted.{regression_written, repeats_written, measured_mixed, loads_back, writes_back}
 use Rattle.demands.proofs.Verdicts.{compare_right, shares_right, agree}
 use Rattle.demands.proofs.Shortlists.{shortlist_right, raters-compared}
@@ -27,7 +26,6 @@ use Rattle.demands.proofs.demands.Goals as goal
 
 pub returns : goal.returns
 returns c =
-    let entry_points : EveryCallIsServed = served in
     record {
       every_desk_is_sound = desk_sound;
       places_hold_what_was_loaded = places_hold;
@@ -36,6 +34,7 @@ returns c =
       every_held_table_is_sound = tables_sound;
       announced_rates_never_fall = rates_never_fall;
       calls_leave_images = λ calls. is_image (desk_after_lem calls) (desk_sound calls);
+      every_call_is_served = served;
       every_call_is_answered = answered;
       load_tells_wrong_cuts = load_tells;
       load_means_wrong_cuts = load_means;
