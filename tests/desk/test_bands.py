@@ -15,8 +15,8 @@ from desk import Desk  # noqa: E402
 
 ROW = re.compile(r'^\| (\d+) \| ([\d,]+) \| ([\d.]+)% \|$', re.M)
 HEAD = '| band | limit in ppm | in percent |\n| ---: | ---: | ---: |\n'
-CONSTANT = re.compile(r'^const BAND_LIMITS: \[u32; (\d+)\] = \[\n((?:    [\d_]+,\n)*)\];$', re.M)
-DEFINITION = re.compile(r'^listedLimits =\n((?:    (?:∷ )?[\d_]+\n)*)    ∷ \[\]$', re.M)
+CONSTANT = re.compile(r'^const BAND_LIMITS: \[u32; (\d+)\] = \[\n((?:    [\d_, ]+,\n)*)\];$', re.M)
+DEFINITION = re.compile(r'^listed_limits =\n((?:    (?:∷ )?[\d_]+\n)*)    ∷ \[\]$', re.M)
 MOST = 1_000_000  # obligors of a table, and ppm of the whole
 
 
