@@ -2,13 +2,7 @@
 use Rattle.std.specs.Prelude.{not, T}
 use Rattle.std.specs.Float.Ieee.{is_nan}
 use Rattle.spread.specs.declared.Spread.{Spread}
-use Rattle.calls.specs.declared.SpreadAnswer.{SpreadAnswer}
-use Rattle.calls.specs.declared.SpreadAnswer.TheVariants as spread
 
 pub record Numbers (s : Spread) : Type 0 where
   pub total : T (not (is_nan s.total))
   pub residual : T (not (is_nan s.residual))
-
-abbrev pub Plain : SpreadAnswer → Type 0
-Plain (spread.Spread s) = Numbers s
-Plain (spread.Refused n) = Unit {0}

@@ -12,12 +12,11 @@ use Rattle.table.specs.Place.{table_of}
 use Rattle.table.specs.Words.{place_in, table_in, IsPlace}
 use Rattle.table.proofs.Suffix.{length_grades}
 use Rattle.table.proofs.Words.{few_grades, long_words}
-use Rattle.book.specs.declared.Written.{Written}
-use Rattle.book.specs.declared.Written.TheVariants.{Length, Refused}
+use Rattle.refusals.specs.Answers.{Answer, accepted, refused}
 use Rattle.book.specs.Bytes.{two_bytes, four_bytes}
 use Rattle.book.specs.Private.{stored, encode_head, Writable}
 use Rattle.book.specs.Encode.{encode_grade, encode_grades, encode_table, encode_tables, offsets, ends_at, size_of, book_size, encode}
-use Rattle.book.specs.Writing.{write_fault, length_or, buffer_or, write_answer, buffer_after, tables_of}
+use Rattle.book.specs.Writing.{write_fault, buffer_or, write_answer, buffer_after, tables_of}
 use Rattle.book.proofs.Checks.{found, none, pass, over}
 use Rattle.book.proofs.Stored.{stored_two, stored-three, stored-all}
 
@@ -116,26 +115,26 @@ two_stored l t u next size s e =
 book_stored : (ts : List Table) (buf : List ℕ) → book_size ts ≤ length buf → stored buf 0 (encode ts) ≡ encode ts ++ drop (book_size ts) buf
 book_stored ts buf h = let l = length-encode ts in stored-all (encode ts) buf (omega arith) ∙ rw l
 
-abbrev pub Wrote : List Table → List ℕ → Written → List ℕ → Type 0
+abbrev pub Wrote : List Table → List ℕ → Answer ℕ → List ℕ → Type 0
 Wrote ts buf r after = (r ≡ write_answer ts (length buf)) × (after ≡ buffer_after ts buf)
 
 module _ (ts : List Table) (buf : List ℕ) where
-  pub fits : (r : Written) (after : List ℕ) → 1 ≤ length ts → book_size ts ≤ length buf → r ≡ Length (book_size ts) → after ≡ stored buf 0 (encode ts)
+  pub fits : (r : Answer ℕ) (after : List ℕ) → 1 ≤ length ts → book_size ts ≤ length buf → r ≡ accepted (book_size ts) → after ≡ stored buf 0 (encode ts)
       → Wrote ts buf r after
-  unfolding write_fault length_or buffer_or
+  unfolding write_fault buffer_or
   fits r after some h e f =
       let z : 0 ≡ write_fault ts (length buf) = found (pass some (pass h none)) in
       (e ∙ rw (← z), f ∙ book_stored ts buf h ∙ rw (← z))
 
-  refuses : (n : ℕ) → suc n ≡ write_fault ts (length buf) → Wrote ts buf (Refused (suc n)) buf
-  unfolding length_or buffer_or
+  refuses : (n : ℕ) → suc n ≡ write_fault ts (length buf) → Wrote ts buf (refused (suc n)) buf
+  unfolding buffer_or
   refuses n z = (rw (← z), rw (← z))
 
-  pub short : 1 ≤ length ts → length buf < book_size ts → Wrote ts buf (Refused 13) buf
+  pub short : 1 ≤ length ts → length buf < book_size ts → Wrote ts buf (refused 13) buf
   unfolding write_fault
   short some h = refuses 12 (found (pass some (over h)))
 
-pub nothing : (buf : List ℕ) → Wrote [] buf (Refused 22) buf
+pub nothing : (buf : List ℕ) → Wrote [] buf (refused 22) buf
 unfolding write_fault
 nothing buf = refuses [] buf 21 (found (over (omega arith)))
 

@@ -2,7 +2,7 @@
 use Prim.Native.Nat.{ℕ, zero, suc, ◌≤◌, ◌<◌}
 use mathlib.Core.Path.{◌≡◌, refl, sym, ◌∙◌}
 use mathlib.Core.Bool.{Bool, true, false, cond}
-use mathlib.Core.List.{List, [], ◌∷◌}
+use mathlib.Core.List.{List, [], ◌∷◌, ◌++◌}
 use native.Mathlib.Decide.{dec_le, ℕ_discrete}
 use native.Mathlib.Omega.{arith}
 use borrow.Author.Tests.{le-leb, lt-leb, eq-eqb, ne_eqb, leb-true, eqb-true}
@@ -24,6 +24,13 @@ found (pass h f) = rw (le-leb _ _ h) (found f)
 found (same h f) = rw (eq-eqb _ _ h) (found f)
 found (over h) = rw (lt-leb _ _ h)
 found (other h) = rw (ne_eqb _ _ h)
+
+-- a check that the test beside it shares its number with: it fails, or it holds and the next ones are looked at
+pub over_or : {a b n : ℕ} {l : List Check} → (a ≤ b → Finds l n) → Finds (at_most a b n ∷ l) n
+over_or {a} {b} f = elim (dec_le a b) [ yes h ↦ pass h (f h) | no h ↦ let less : b < a = omega arith in over less ]
+
+pub other_or : {a b n : ℕ} {l : List Check} → (a ≡ b → Finds l n) → Finds (equal a b n ∷ l) n
+other_or {a} {b} f = elim (ℕ_discrete a b) [ yes h ↦ same h (f h) | no h ↦ other h ]
 
 -- there is always a way
 pub finds : (l : List Check) → Finds l (fault l)
@@ -76,3 +83,14 @@ pub held_first : (n m : ℕ) → first_fault n m ≡ 0 → (n ≡ 0) × (m ≡ 0
 unfolding first_fault
 held_first zero m h = (refl, h)
 held_first (suc n) m h = absurd (omega arith)
+
+-- Checks that begin a list: the fault that they have is the list's.
+longer : {l : List Check} {n : ℕ} (rest : List Check) → Finds l n → 0 < n → Finds (l ++ rest) n
+longer rest none k = absurd (omega arith)
+longer rest (pass h f) k = pass h (longer rest f k)
+longer rest (same h f) k = same h (longer rest f k)
+longer rest (over h) k = over h
+longer rest (other h) k = other h
+
+pub begun : {n : ℕ} (l rest : List Check) → 0 < n → n ≡ fault l → n ≡ fault (l ++ rest)
+begun l rest k e = rw e (found (longer rest (finds l) (omega arith)))

@@ -4,6 +4,7 @@ use mathlib.Core.Path.{◌≡◌, refl, sym, ap, ◌∙◌}
 use mathlib.Core.List.{List, [], ◌∷◌, ◌++◌, map, append_assoc}
 use native.Mathlib.Omega.{arith}
 use lib.ListN.{length, set, take, drop, replicate, length-append, length-map, length-replicate}
+use Rattle.std.proofs.lemmas.List.{drop-replicate}
 use lib.Seq.{set_comm, sets-eq, take_at, drop_at, drop-drop, drop-append-le, set_at}
 use Rattle.table.specs.Table.{Table, Grade}
 use Rattle.table.specs.Place.{fresh, column, place_of}
@@ -47,11 +48,6 @@ row-stored w os ds ps i x y z h k =
 abbrev zeros : List ℕ
 zeros = replicate 40 0
 
-drop_zeros : (n k : ℕ) → drop {A = ℕ} k (replicate n 0) ≡ replicate (n - k) 0
-drop_zeros n zero = let e : n - 0 ≡ n = omega arith in rw e refl
-drop_zeros zero (suc k) = let e : 0 - suc k ≡ 0 = omega arith in rw e refl
-drop_zeros (suc n) (suc k) = let e : suc n - suc k ≡ n - k = omega arith in rw e (drop_zeros n k)
-
 -- one column, over the zeros behind p
 over_zeros : (p r : List ℕ) (at : ℕ) (f : Grade → ℕ) (t : Table) → length p ≡ at → length t ≤ 40
     → stored (p ++ zeros ++ r) at (map f t) ≡ p ++ column f t ++ r
@@ -68,7 +64,7 @@ over_zeros p r at f t e few =
     sym (drop-drop (length v) at l)
     ∙ ap (λ (x : List ℕ). drop (length v) x) (ap (drop at) a ∙ drop_at p (zeros ++ r) at e)
     ∙ drop-append-le (length v) zeros r (omega arith)
-    ∙ ap (λ (x : List ℕ). x ++ r) (drop_zeros 40 (length v) ∙ ap (λ (i : ℕ). replicate (40 - i) 0) m) in
+    ∙ ap (λ (x : List ℕ). x ++ r) (drop-replicate (length v) 40 0 ∙ ap (λ (i : ℕ). replicate (40 - i) 0) m) in
     sets-eq v l at (omega arith)
     ∙ ap (λ (x : List ℕ). x ++ v ++ drop (at + length v) l) front
     ∙ ap (λ (x : List ℕ). p ++ v ++ x) back

@@ -10,14 +10,14 @@ use lib.Seq.{take_at}
 use Rattle.table.specs.declared.Place.{Place}
 use Rattle.table.specs.Table.{Table, Every, Sound}
 use Rattle.table.specs.Place.{table_of}
-use Rattle.book.specs.declared.Written.TheVariants.{Length}
+use Rattle.refusals.specs.Answers.{accepted, answer}
 use Rattle.book.specs.Bytes.{two_at_lem, two_bytes}
 use Rattle.book.specs.Checks.{fault}
 use Rattle.book.specs.Layout.{raters, start_of, end_of, head_checks, rater_checks, table_checks, tables_fault_from, tables_fault_lem}
 use Rattle.book.specs.Rows.{table_of_rater, table_fault_lem}
 use Rattle.book.specs.Reading.{read_fault}
 use Rattle.book.specs.Encode.{encode_table, encode_tables, offsets, ends_at, size_of, book_size, encode}
-use Rattle.book.specs.Writing.{write_fault, length_or, buffer_or, write_answer, buffer_after, tables_of}
+use Rattle.book.specs.Writing.{write_fault, buffer_or, write_answer, buffer_after, tables_of}
 use Rattle.book.proofs.Checks.{found, none, pass, same, go}
 use Rattle.book.proofs.Faultless.{sound_faultless}
 use Rattle.book.proofs.Books.{length_two, length_table, length-offsets, length_tables, length-encode, chosen}
@@ -156,13 +156,12 @@ module _ (ts : List Table) (few : length ts ≤ 16) (sound : Every Sound ts) whe
 
 -- What a write leaves.
 
-length_is : (k n : ℕ) (ts : List Table) → length_or k ts ≡ Length n → (k ≡ 0) × (book_size ts ≡ n)
-unfolding length_or
+length_is : (k n : ℕ) (ts : List Table) → answer k (book_size ts) ≡ accepted n → (k ≡ 0) × (book_size ts ≡ n)
 length_is zero n ts e = (refl, (cc))
 length_is (suc k) n ts e = let z : ◌≡◌ {A = ℕ} 0 1 = cc in absurd (omega arith)
 
 -- the first n bytes are the book
-book_written : (ts : List Table) (buf : List ℕ) (n : ℕ) → write_answer ts (length buf) ≡ Length n → take n (buffer_after ts buf) ≡ encode ts
+book_written : (ts : List Table) (buf : List ℕ) (n : ℕ) → write_answer ts (length buf) ≡ accepted n → take n (buffer_after ts buf) ≡ encode ts
 unfolding buffer_or
 book_written ts buf n e =
     let k = length_is (write_fault ts (length buf)) n ts e in
@@ -176,7 +175,7 @@ chosen_sound p q false true f g = ((g refl, tt), omega arith)
 chosen_sound p q false false f g = (tt, omega arith)
 
 pub round_trip : (p q : Place) → (p.loaded ≡ true → Sound (table_of p)) → (q.loaded ≡ true → Sound (table_of q))
-    → (buf : List ℕ) (n : ℕ) → write_answer (tables_of p q) (length buf) ≡ Length n → (j : ℕ) → 1 ≤ j → j ≤ length (tables_of p q)
+    → (buf : List ℕ) (n : ℕ) → write_answer (tables_of p q) (length buf) ≡ accepted n → (j : ℕ) → 1 ≤ j → j ≤ length (tables_of p q)
     → (read_fault (take n (buffer_after (tables_of p q) buf)) j ≡ 0)
     × (table_of_rater (take n (buffer_after (tables_of p q) buf)) j ≡ get_or (tables_of p q) (j - 1) [])
 round_trip p q f g buf n e j from to =

@@ -1,13 +1,14 @@
 -- The rows of a table in a book: those read so far and those to come, as 32 bits hold them, and the faults of both.
 use Prim.Native.Nat.{ℕ, zero, suc, ◌+◌, ◌-◌, ◌*◌, ◌≤◌, ◌<◌}
+use Rattle.std.specs.Prelude.{min}
 use mathlib.Core.Path.{◌≡◌, refl, sym, ap, ◌∙◌}
 use mathlib.Core.Bool.{Bool, true, false}
 use mathlib.Core.List.{List, [], ◌∷◌, ◌++◌, map}
 use native.Mathlib.Decide.{dec_le}
 use native.Mathlib.Nat.{add-zero}
 use native.Mathlib.Omega.{arith}
-use borrow.Author.Tests.{le-leb, lt-leb, leb-true, leb-false}
-use lib.Dec.{leb}
+use borrow.Author.Tests.{le-leb, lt-leb, leb-true, leb-false, ne_eqb}
+use lib.Dec.{leb, eqb}
 use lib.ListN.{length}
 use Rattle.table.specs.Table.{Table, Grade, occupied, obligors_in}
 use Rattle.table.specs.Counts.{largest, capped}
@@ -38,6 +39,16 @@ rows_more b kind zero at = rw add-zero
 rows_more b kind (suc i) at =
     let e : at + 12 * suc i ≡ at + 12 + 12 * i = omega arith in
     rw (e, rows_more b kind i (at + 12))
+
+-- any kind but 0 is read as 1
+
+same_test : (k n : ℕ) → k ≡ min n 1 → eqb k 0 ≡ eqb n 0
+same_test k zero e = let f : k ≡ 0 = omega arith in rw f
+same_test k (suc n) e = ne_eqb k 0 (λ z. omega arith) ∙ sym (ne_eqb (suc n) 0 (λ z. omega arith))
+
+pub same_kind : (b : List ℕ) (k n at : ℕ) → k ≡ min n 1 → grade_in b k at ≡ grade_in b n at
+unfolding grade_in
+same_kind b k n at e = rw (same_test k n e)
 
 -- Rows as 32 bits hold them: a count that they cannot hold has the same faults, and takes the total over the limit.
 

@@ -1,11 +1,12 @@
 -- Bytes stored in a row are stored as one list, and what a stored list leaves of the bytes before it.
 use Prim.Native.Nat.{ℕ, suc, ◌+◌, ◌≤◌}
-use mathlib.Core.Path.{◌≡◌, refl, ◌∙◌}
-use mathlib.Core.List.{List, [], ◌∷◌, ◌++◌}
+use mathlib.Core.Path.{◌≡◌, refl, sym, ◌∙◌}
+use mathlib.Core.List.{List, [], ◌∷◌, ◌++◌, append_assoc}
+use borrow.Rule.Slice.PartMut.{put_mid}
 use native.Mathlib.Nat.{add-zero, zero-add}
 use native.Mathlib.Omega.{arith}
-use lib.ListN.{length, drop, set}
-use lib.Seq.{length-sets, sets-eq}
+use lib.ListN.{length, take, drop, set}
+use lib.Seq.{length-sets, sets-eq, drop-drop}
 use Rattle.book.specs.Private.{stored}
 
 stored_append : (v w l : List ℕ) (at : ℕ) → stored (stored l at v) (at + length v) w ≡ stored l at (v ++ w)
@@ -33,3 +34,9 @@ stored_none l at = refl
 pub stored-all : (v l : List ℕ) → length v ≤ length l → stored l 0 v ≡ v ++ drop (length v) l
 unfolding stored
 stored-all v l h = let k : 0 + length v ≤ length l = omega arith in rw zero-add at (sets-eq v l 0 k)
+
+-- a part of a slice that a list was copied over
+pub part_stored : (l v : List ℕ) (at k : ℕ) → at + length v ≤ length l → k ≡ length v → put_mid at k l v ≡ stored l at v
+unfolding stored
+part_stored l v at k h e =
+    rw (e, drop-drop (length v) at l, ← append_assoc (take at l) v (drop (at + length v) l)) (sym (sets-eq v l at h))

@@ -4,6 +4,7 @@ use Rattle.std.specs.Prelude.{ℕ, ◌+◌, ◌-◌, ◌*◌, ◌≤◌, ◌<◌
 use Rattle.table.specs.declared.Place.{Place}
 use Rattle.table.specs.Table.{Every, Sound, occupied, survivors}
 use Rattle.table.specs.Place.{grade_at, table_of, blank, place_of}
+use Rattle.refusals.specs.Answers.{accepted}
 use Rattle.book.specs.Bytes.{Byte, four_at_lem}
 use Rattle.book.specs.Checks.{fault}
 use Rattle.book.specs.Layout.{raters, start_of, grades_at, kind_at, head_checks, layout_fault}
@@ -13,7 +14,6 @@ use Rattle.book.specs.Fall.{FallsAfter}
 use Rattle.book.specs.Reading.{read_fault, book_fault}
 use Rattle.book.specs.Encode.{encode}
 use Rattle.book.specs.Writing.{tables_of, write_answer, buffer_after}
-use Rattle.book.specs.declared.Written.TheVariants.{Length}
 
 -- what a reading of rater j without a fault leaves in a place
 pub record Accepted (b : List ℕ) (j : ℕ) (p : Place) : Type 0 where
@@ -64,7 +64,7 @@ FirstColumnIsOfItsKind =
 abbrev pub WrittenBookReadsBack : Type 0
 WrittenBookReadsBack =
     (p q : Place) → (p.loaded ≡ true → Sound (table_of p)) → (q.loaded ≡ true → Sound (table_of q))
-    → (buf : List ℕ) (n : ℕ) → write_answer (tables_of p q) (length buf) ≡ Length n
+    → (buf : List ℕ) (n : ℕ) → write_answer (tables_of p q) (length buf) ≡ accepted n
     → (j : ℕ) → 1 ≤ j → j ≤ length (tables_of p q)
     → (read_fault (take n (buffer_after (tables_of p q) buf)) j ≡ 0)
     × (table_of_rater (take n (buffer_after (tables_of p q) buf)) j ≡ get_or (tables_of p q) (j - 1) [])

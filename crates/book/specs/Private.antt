@@ -10,6 +10,8 @@ use Rattle.book.specs.Bytes.{two_bytes}
 use Rattle.book.specs.Checks.{Check, at_most}
 use Rattle.book.specs.Writing.{tables_of}
 use Rattle.book.specs.declared.Row.{Row}
+use Rattle.book.specs.declared.reader.Kind.{Kind}
+use Rattle.book.specs.declared.reader.Kind.TheVariants.{Obligors, Survivors}
 
 -- a list with the bytes v stored from `at` on
 unfoldable pub stored : List ℕ → ℕ → List ℕ → List ℕ
@@ -18,6 +20,11 @@ stored b at v = sets b at v
 -- the first bytes of a written book: the number of raters, the length, and where the first table starts
 unfoldable pub encode_head : ℕ → ℕ → List ℕ
 encode_head n size = two_bytes n ++ (two_bytes size ++ two_bytes (4 + 2 * n))
+
+-- the number that stands for a kind in a book
+abbrev pub number_of_kind : Kind → ℕ
+number_of_kind Obligors = 0
+number_of_kind Survivors = 1
 
 -- a row as the code holds it, and a grade as 32 bits hold it
 abbrev pub grade_of : Row → Grade

@@ -1,12 +1,11 @@
-// The layout of a book and its checks: each check answers 0, or the number of the first fault.
+// The layout of a book and its checks, each of which answers the first fault.
 ghost use Rattle.std.specs.Prelude.{◌+◌, ◌*◌, ◌≤◌, ◌<◌, ◌≡◌, length};
+ghost use Rattle.refusals.specs.Numbers.{number_in};
 ghost use Rattle.book.specs.Checks.{fault};
 ghost use Rattle.book.specs.Layout.{raters, start_of, head_checks, table_checks, tables_fault_lem};
 
 use crate::bytes::{byte_at, two_at};
-use refusals::{
-    BOOK_LENGTH, COLUMN_KIND, GRADE_COUNT, LEFTOVER, RATER_COUNT, TABLE_END, TABLE_START,
-};
+use refusals::Refusal;
 use table::GRADES;
 
 // The bytes of a book's head, of an offset, of a table's head and of a row.
@@ -38,74 +37,58 @@ pub fn start_of(b: &[u8], j: usize) -> usize
 }
 
 // The length of the book, and the number of raters.
-pub fn head_fault(b: &[u8]) -> u32
-    ensures { result ≡ fault (head_checks b.now) }
+pub fn check_head(b: &[u8]) -> Result<(), Refusal>
+    ensures { number_in result ≡ fault (head_checks b.now) }
 {
-    if b.len() < HEAD {
-        return BOOK_LENGTH;
-    }
-    if two_at(b, 2) != b.len() {
-        return BOOK_LENGTH;
+    if b.len() < HEAD || two_at(b, 2) != b.len() {
+        return Err(Refusal::BookLength);
     }
     let raters = raters_of(b);
-    if raters < 1 {
-        return RATER_COUNT;
+    if raters < 1 || RATERS < raters || b.len() < HEAD + OFFSET * raters {
+        return Err(Refusal::RaterCount);
     }
-    if RATERS < raters {
-        return RATER_COUNT;
-    }
-    if b.len() < HEAD + OFFSET * raters {
-        return RATER_COUNT;
-    }
-    0
+    Ok(())
 }
 
 // The table of rater j, where the one before ended at `at`.
-fn table_fault(b: &[u8], j: usize, at: usize) -> u32
+fn check_table(b: &[u8], j: usize, at: usize) -> Result<(), Refusal>
     requires { (1 ≤ j) × (4 + 2 * j ≤ length b.now) × (at ≤ length b.now) }
-    ensures { result ≡ fault (table_checks b.now j at) }
+    ensures { number_in result ≡ fault (table_checks b.now j at) }
 {
     if start_of(b, j) != at {
-        return TABLE_START;
+        return Err(Refusal::TableStart);
     }
     if b.len() - at < TABLE_HEAD {
-        return TABLE_END;
+        return Err(Refusal::TableEnd);
     }
     let grades = byte_at(b, at);
-    if grades < 1 {
-        return GRADE_COUNT;
+    if grades < 1 || GRADES < grades {
+        return Err(Refusal::GradeCount);
     }
-    if GRADES < grades {
-        return GRADE_COUNT;
-    }
-    if 1 < byte_at(b, at + 1) {
-        return COLUMN_KIND;
-    }
-    if two_at(b, at + 2) != 0 {
-        return COLUMN_KIND;
+    if 1 < byte_at(b, at + 1) || two_at(b, at + 2) != 0 {
+        return Err(Refusal::ColumnKind);
     }
     if at + TABLE_HEAD + ROW * grades <= b.len() {
-        0
+        Ok(())
     } else {
-        TABLE_END
+        Err(Refusal::TableEnd)
     }
 }
 
 // All tables, and that nothing follows them.
-pub fn tables_fault(b: &[u8]) -> u32
+pub fn check_tables(b: &[u8]) -> Result<(), Refusal>
     requires { fault (head_checks b.now) ≡ 0 }
-    ensures { result ≡ tables_fault_lem b.now }
+    ensures { number_in result ≡ tables_fault_lem b.now }
 {
     let raters = raters_of(b);
     let mut at = HEAD + OFFSET * raters;
-    let mut j: usize = 0;
-    while j < raters {
-        let n = table_fault(b, j + 1, at);
-        if n != 0 {
-            return n;
-        }
-        at = at + TABLE_HEAD + ROW * byte_at(b, at);
-        j += 1;
+    for j in 0..raters {
+        check_table(b, j + 1, at)?;
+        at += TABLE_HEAD + ROW * byte_at(b, at);
     }
-    if at == b.len() { 0 } else { LEFTOVER }
+    if at == b.len() {
+        Ok(())
+    } else {
+        Err(Refusal::Leftover)
+    }
 }

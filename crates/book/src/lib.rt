@@ -8,17 +8,10 @@ mod layout;
 mod reader;
 mod writer;
 
-pub use layout::{RATERS, head_fault, raters_of, start_of, tables_fault};
+pub use layout::{RATERS, check_head, check_tables, raters_of, start_of};
 pub use reader::{read, read_table};
 use table::Obligors;
 pub use writer::write;
-
-// The length of the book that was written, or a refusal number.
-#[derive(Clone, Copy)]
-pub enum Written {
-    Length(u32),
-    Refused(u32),
-}
 
 // A row of a table in a book: one grade.
 #[derive(Clone, Copy)]

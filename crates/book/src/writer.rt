@@ -1,14 +1,15 @@
 // Writing the tables of lent places as a book of kind 0.
 ghost use Rattle.std.specs.Prelude.{◌+◌, ◌*◌, ◌≤◌, ◌≡◌, [], ◌∷◌, length};
 ghost use Rattle.table.specs.Words.{place_in, table_in};
+ghost use Rattle.refusals.specs.Answers.{says};
 ghost use Rattle.book.specs.Private.{stored, grade_of, encode_head, Writable, lent_tables};
 ghost use Rattle.book.specs.Encode.{encode_grade, encode_grades, encode_table, size_of};
 ghost use Rattle.book.specs.Writing.{write_answer, buffer_after};
 
+use crate::Row;
 use crate::bytes::{put_four, put_two};
 use crate::layout::{HEAD, OFFSET, ROW, TABLE_HEAD};
-use crate::{Row, Written};
-use refusals::{PLACE_EMPTY, SHORT_BUFFER};
+use refusals::Refusal;
 use table::{ANNOUNCED, DEFAULTS, grades_of, is_loaded, obligors_at};
 
 // Where one offset behind the head of a book ends, and where two do.
@@ -26,25 +27,22 @@ fn put_row(out: &mut [u8], at: usize, r: Row)
     put_four(out, at + 8, r.announced);
 }
 
+// A lent place is passed as its words. (A struct with the ghost field that it is `Writable` would be no plainer: that is one word of each contract.)
+
 // Stores the rows of the table in a lent place from `start` on.
 fn put_rows(out: &mut [u8], start: usize, place: &[u32])
     requires writable { Writable place.now }
     requires room { start + 12 * (place_in place.now).grades ≤ length out.old }
     ensures { out.new ≡ stored out.old start (encode_grades (table_in place.now)) }
 {
-    let grades = grades_of(place);
-    let mut at = start;
-    let mut i: usize = 0;
-    while i < grades {
+    for i in 0..grades_of(place) {
         let obligors = obligors_at(place, i);
         let row = Row {
             obligors,
             defaults: place[DEFAULTS + i],
             announced: place[ANNOUNCED + i],
         };
-        put_row(out, at, row);
-        at += ROW;
-        i += 1;
+        put_row(out, start + ROW * i, row);
     }
 }
 
@@ -77,57 +75,50 @@ fn put_head(out: &mut [u8], raters: usize, size: usize)
     put_two(out, HEAD, HEAD + OFFSET * raters);
 }
 
-// A book of the table in one place.
-fn write_one(place: &[u32], out: &mut [u8]) -> Written
+// A book of the table in one place. (One function for it and for two tables would be no plainer: it tests thrice whether there is a second place,
+// and each line of its contract does.)
+fn write_one(place: &[u32], out: &mut [u8]) -> Result<usize, Refusal>
     requires { Writable place.now }
-    ensures value { result ≡ write_answer (table_in place.now ∷ []) (length out.old) }
+    ensures value { says result ≡ write_answer (table_in place.now ∷ []) (length out.old) }
     ensures out_after { out.new ≡ buffer_after (table_in place.now ∷ []) out.old }
 {
     let size = ONE_OFFSET_END + size_of(place);
     if out.len() < size {
-        return Written::Refused(SHORT_BUFFER);
+        return Err(Refusal::ShortBuffer);
     }
     put_head(out, 1, size);
     put_table(out, ONE_OFFSET_END, place);
-    Written::Length(size as u32)
+    Ok(size)
 }
 
 // A book of the tables in two places.
-fn write_two(first: &[u32], second: &[u32], out: &mut [u8]) -> Written
+fn write_two(first: &[u32], second: &[u32], out: &mut [u8]) -> Result<usize, Refusal>
     requires { Writable first.now × Writable second.now }
-    ensures value { result ≡ write_answer (table_in first.now ∷ table_in second.now ∷ []) (length out.old) }
+    ensures value { says result ≡ write_answer (table_in first.now ∷ table_in second.now ∷ []) (length out.old) }
     ensures out_after { out.new ≡ buffer_after (table_in first.now ∷ table_in second.now ∷ []) out.old }
 {
     let next = TWO_OFFSETS_END + size_of(first);
     let end = next + size_of(second);
     if out.len() < end {
-        return Written::Refused(SHORT_BUFFER);
+        return Err(Refusal::ShortBuffer);
     }
     put_head(out, 2, end);
     put_two(out, ONE_OFFSET_END, next);
     put_table(out, TWO_OFFSETS_END, first);
     put_table(out, next, second);
-    Written::Length(end as u32)
+    Ok(end)
 }
 
 // A book of the loaded ones of two places, the first before the second.
-pub fn write(first: &[u32], second: &[u32], out: &mut [u8]) -> Written
+pub fn write(first: &[u32], second: &[u32], out: &mut [u8]) -> Result<usize, Refusal>
     requires { Writable first.now × Writable second.now }
-    ensures value { result ≡ write_answer (lent_tables first.now second.now) (length out.old) }
+    ensures value { says result ≡ write_answer (lent_tables first.now second.now) (length out.old) }
     ensures out_after { out.new ≡ buffer_after (lent_tables first.now second.now) out.old }
 {
-    let second_loaded = is_loaded(second);
-    if is_loaded(first) {
-        if second_loaded {
-            write_two(first, second, out)
-        } else {
-            write_one(first, out)
-        }
-    } else {
-        if second_loaded {
-            write_one(second, out)
-        } else {
-            Written::Refused(PLACE_EMPTY)
-        }
+    match (is_loaded(first), is_loaded(second)) {
+        (true, true) => write_two(first, second, out),
+        (true, false) => write_one(first, out),
+        (false, true) => write_one(second, out),
+        (false, false) => Err(Refusal::PlaceEmpty),
     }
 }

@@ -1,7 +1,7 @@
 -- What a call answers and leaves, by the number of its first fault.
 use Prim.Native.Nat.{ℕ, zero, suc}
 use mathlib.Core.Path.{◌≡◌, refl}
-use Rattle.calls.specs.Answers.{accepted, refused, answer, leaves}
+use Rattle.refusals.specs.Answers.{accepted, refused, answer, leaves}
 
 module _ {A : Type 0} where
   pub refuses : (n : ℕ) {m : ℕ} (x : A) → n ≡ m → (n ≡ 0 → ⊥) → refused n ≡ answer m x

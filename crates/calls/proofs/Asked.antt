@@ -10,7 +10,7 @@ use Rattle.table.proofs.Words.{holds-table}
 use Rattle.pooled_place.specs.Words.{HoldsPooledTable, IsPooledPlace}
 use Rattle.pooled_place.proofs.Words.{holds_pooled}
 use Rattle.book.proofs.Checks.{Finds, found, stop, go}
-use Rattle.calls.specs.Answers.{refused, answer}
+use Rattle.refusals.specs.Answers.{refused, answer}
 use Rattle.calls.specs.Calls.{empty_fault, Question, question_checks, question_fault}
 use Rattle.calls.proofs.Answered.{refuses}
 

@@ -2,7 +2,7 @@
 use Prim.Native.Nat.{ℕ, zero, suc}
 use mathlib.Core.Path.{◌≡◌, refl}
 use native.Mathlib.Omega.{arith}
-use Rattle.calls.specs.Answers.{leaves}
+use Rattle.refusals.specs.Answers.{leaves}
 
 pub by-fault : {A : Type 0} (P : A → Type 0) (n : ℕ) {old new : A} → (n ≡ 0 → P new) → ((n ≡ 0 → ⊥) → P old) → P (leaves n old new)
 by-fault P zero f g = f refl

@@ -14,7 +14,7 @@ use Rattle.events.specs.declared.Event.{Event}
 use Rattle.events.specs.Events.{table_after, event_fault}
 use Rattle.cutoff.specs.Verdict.{IsVerdict}
 use Rattle.cutoff.specs.declared.Verdict.{Verdict}
-use Rattle.calls.specs.Answers.{Answer, Limited}
+use Rattle.refusals.specs.Answers.{Answer, Limited}
 
 -- 21: place already loaded.
 abbrev pub loaded_fault : Place → ℕ

@@ -1,5 +1,5 @@
 -- Serves contracts of functions inside the library only: what is promised does not rest on it.
--- What load requires of a lent place; the checks that both comparisons begin with, and a refusal that is handed on.
+-- What load requires of a lent place, and the checks that both comparisons begin with.
 use Rattle.std.specs.Prelude.{ℕ, ◌≡◌, false, List, [], ◌∷◌, length}
 use Rattle.table.specs.declared.Place.{Place}
 use Rattle.table.specs.declared.Totals.{Totals}
@@ -10,7 +10,6 @@ use Rattle.table.specs.Words.{place_in}
 use Rattle.pooled_place.specs.PooledPlace.{fresh_pooled_place}
 use Rattle.pooled_place.specs.Words.{pooled_place_size, pooled_place_words}
 use Rattle.book.specs.Checks.{Check, at_most, fault, first_fault}
-use Rattle.calls.specs.Answers.{Answer, accepted, refused}
 use Rattle.calls.specs.Calls.{empty_fault}
 
 -- 23 for either, 24 for either: the checks of the tables that both comparisons begin with
@@ -29,11 +28,6 @@ mixed_fault p q = first_fault (empty_fault p) (first_fault (empty_fault q) (faul
 -- the totals of both tables
 abbrev pub pair_totals : Place → Place → Totals × Totals
 pair_totals p q = (totals_of_lem (table_of p), totals_of_lem (table_of q))
-
--- where a is a refusal, r is the same one
-abbrev pub SameRefusal : {A B : Type 0} → Answer A → Answer B → Type 0
-SameRefusal (accepted x) r = Unit {0}
-SameRefusal (refused n) r = r ≡ refused n
 
 -- What load requires of a lent place: all words are there, and where it is not loaded they are those of an empty one.
 pub record Fillable (w : List ℕ) : Type 0 where

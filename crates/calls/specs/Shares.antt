@@ -6,7 +6,7 @@ use Rattle.table.specs.declared.Place.{Place}
 use Rattle.book.specs.Checks.{Check, at_most, fault, first_fault}
 use Rattle.cutoff.specs.declared.Verdict.{Verdict}
 use Rattle.shares.specs.Verdict.{IsVerdictByShares}
-use Rattle.calls.specs.Answers.{Answer, Limited}
+use Rattle.refusals.specs.Answers.{Answer, Limited}
 use Rattle.calls.specs.Calls.{empty_fault}
 
 -- 23 for either, 24 for either, 35 for either

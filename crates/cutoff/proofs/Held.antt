@@ -1,16 +1,16 @@
 -- A scale as the code goes over it, from the worst block to the best: the last of its first k blocks.
-use Prim.Native.Nat.{ℕ, suc, ◌+◌, ◌-◌, ◌*◌, ◌≤◌, ◌<◌}
+use Prim.Native.Nat.{ℕ, suc, ◌+◌, ◌-◌, ◌≤◌, ◌<◌}
 use mathlib.Core.Path.{◌≡◌, sym, ap, ◌∙◌}
-use mathlib.Core.List.{List, ◌∷◌, ◌++◌}
+use mathlib.Core.List.{List, [], ◌∷◌, ◌++◌}
 use native.Mathlib.Omega.{arith}
-use lib.ListN.{length, get_or, take, drop, length-map, get_or-map}
-use lib.Seq.{split_at, drop-cons, length-take-le}
+use lib.ListN.{length, get_or, take, drop, length-append, take-append-drop, get_or-map}
+use lib.Seq.{split_at, drop-cons, length-take-le, append_snoc, take-append_seam, get_or-append_seam}
 use Rattle.table.specs.Table.{Table, Grade, Every, Counted, survivors, defaults_in, survivors_in}
 use Rattle.table.specs.Place.{blank}
 use Rattle.table.proofs.Every.{every_split}
+use Rattle.pooling.specs.declared.Block.{Block}
 use Rattle.pooling.specs.Pool.{as_grade}
-use Rattle.pooling.specs.Private.{block_words, block_at_lem, blocks_in_lem}
-use Rattle.pooling.proofs.Words.{Between, last}
+use Rattle.pooling.specs.Private.{block}
 use Rattle.cutoff.specs.Sweep.{scale_in}
 use Rattle.cutoff.proofs.Cost.{drop_le}
 
@@ -43,20 +43,21 @@ next t counted k from to =
       few_survivors = omega (arith, few.1);
     }
 
--- Its block in the words that end before index 3 k.
-pub record Words (w : List ℕ) (at k : ℕ) : Type 0 where
+-- Its block, as the code takes it from the first k, and the blocks before it.
+pub record Last (bs : List Block) (k : ℕ) (rest : List Block) (b : Block) : Type 0 where
   pub some : 0 < k
-  pub high : 3 ≤ at
-  pub room : at - 3 + 3 ≤ length w
-  pub here : as_grade (block_at_lem w (at - 3)) ≡ grade_before (scale_in w) k
+  pub before : rest ≡ take (k - 1) bs
+  pub here : as_grade b ≡ grade_before (scale_in bs) k
 
-pub words : (w : List ℕ) (at k : ℕ) → w ≡ block_words (blocks_in_lem w) → k ≤ length (scale_in w) → at ≡ 3 * k → 0 < at → Words w at k
-words w at k exact few same more =
-    let b : Between (blocks_in_lem w) 0 at = record { count = k; few = rw length-map at few; same = omega arith } in
-    let l = last w (blocks_in_lem w) 0 at exact b more in
+pub last : (bs : List Block) (k : ℕ) (rest : List Block) (b : Block) → k ≤ length bs → take k bs ≡ rest ++ b ∷ [] → Last bs k rest b
+last bs k rest b few e =
+    let n : k ≡ length rest + 1 = sym (length-take-le k bs few) ∙ ap length e ∙ length-append rest (b ∷ []) in
+    let i : k - 1 ≡ length rest = omega arith in
+    let split : bs ≡ rest ++ b ∷ drop k bs =
+    sym (take-append-drop k bs) ∙ ap (λ l. l ++ drop k bs) e ∙ append_snoc rest b (drop k bs) in
     record {
-      some = l.some;
-      high = l.high;
-      room = l.room;
-      here = ap as_grade l.here ∙ sym (get_or-map as_grade (blocks_in_lem w) (k - 1) _);
+      some = omega arith;
+      before = rw i (sym (ap (take (length rest)) split ∙ take-append_seam rest (b ∷ drop k bs)));
+      here = rw i (sym (get_or-map as_grade bs (length rest) (block 0 0 0)
+          ∙ ap as_grade (ap (λ l. get_or l (length rest) (block 0 0 0)) split ∙ get_or-append_seam rest b (drop k bs) (block 0 0 0))));
     }

@@ -11,7 +11,7 @@ use mir.Syntax.{w64}
 use mir.Val.{SFits, to_z, of_z}
 use mir.ValLaws.{to_z-of_z}
 use Rattle.table.specs.Table.{Table, survivors, defaults_in, survivors_in}
-use Rattle.table.proofs.Signed.{size-of, size_fits, plus_pos, minus_pos, times_sub, sub_order}
+use Rattle.table.proofs.Signed.{count_back, size-of, size_fits, plus_pos, minus_pos, times_sub, sub_order}
 use Rattle.cutoff.specs.declared.Counts.{Counts}
 use Rattle.cutoff.specs.declared.Lead.{Lead}
 use Rattle.cutoff.specs.declared.Weights.{Weights}
@@ -26,6 +26,17 @@ fits_as {y} {z} e h = rw e (size_fits z (omega arith))
 
 pub fitting_back : (z : ℤ) → FitsSigned z → to_z w64 (of_z w64 z) ≡ z
 fitting_back z h = to_z-of_z w64 z (size_fits z (omega arith))
+
+-- A number of a lead and a count, as the machine computes with them.
+module _ (z : ℤ) (n : ℕ) (fits : SFits w64 z) (few : n ≤ 100_000_000_000) where
+  pub sum_back : to_z w64 (of_z w64 z) +ℤ to_z w64 n ≡ z +ℤ pos n
+  sum_back = rw (to_z-of_z w64 z fits, count_back n (omega arith))
+
+  pub difference_back : to_z w64 (of_z w64 z) -ℤ to_z w64 n ≡ z -ℤ pos n
+  difference_back = rw (to_z-of_z w64 z fits, count_back n (omega arith))
+
+  pub product_back : to_z w64 n *ℤ to_z w64 (of_z w64 z) ≡ pos n *ℤ z
+  product_back = rw (to_z-of_z w64 z fits, count_back n (omega arith))
 
 sub_fits : (a b : ℕ) → a ≤ most_pairs → b ≤ most_pairs → FitsSigned (sub_ℕ a b)
 sub_fits a b h k = omega (arith, size-of a b)
@@ -61,7 +72,7 @@ module _ {w : Weights} {t : Table} {k y x : ℕ} {l : Lead} (is : Leads w t k y 
     ahead-survivors = rw (is.survivors, (with_next w n).1) (plus_pos (lost_after w t k) x (w.survivors.0 * survivors (grade_before t k)))
 
     pub goes_ahead : {r : Lead} → r ≡ ahead l (counts_in w (grade_before t k)) → Leads w t (k - 1) y x r
-    goes_ahead e = rw e record { from = omega (arith, is.from); defaults = ahead_defaults; survivors = ahead-survivors }
+    goes_ahead e = rw e record { accepted = omega (arith, is.accepted); defaults = ahead_defaults; survivors = ahead-survivors }
 
     pub ahead_fits : FewIn w t → y ≤ 100_000_000_000 → x ≤ 100_000_000_000
         → FitsSigned (l.defaults +ℤ pos (w.defaults * (grade_before t k).defaults))
@@ -81,7 +92,7 @@ module _ {w : Weights} {t : Table} {k y x : ℕ} {l : Lead} (is : Leads w t k y 
     behind-survivors = rw is.survivors (minus_pos (lost_after w t k) x c.survivors)
 
     pub falls_behind : {r : Lead} → r ≡ behind l c → Leads w t k (y + c.defaults) (x + c.survivors) r
-    falls_behind e = rw e record { from = is.from; defaults = behind_defaults; survivors = behind-survivors }
+    falls_behind e = rw e record { accepted = is.accepted; defaults = behind_defaults; survivors = behind-survivors }
 
     pub behind_fits : FewIn w t → y + c.defaults ≤ 100_000_000_000 → x + c.survivors ≤ 100_000_000_000
         → FitsSigned (l.defaults -ℤ pos c.defaults) × FitsSigned (l.survivors -ℤ pos c.survivors)

@@ -3,93 +3,99 @@
 use Prim.Native.Nat.{ℕ, ◌+◌, ◌-◌, ◌*◌, ◌≤◌, ◌<◌}
 use mathlib.Core.Path.{◌≡◌, sym, ap, ◌∙◌}
 use mathlib.Core.Bool.{Bool, true, false}
-use mathlib.Core.List.{List, ◌∷◌}
+use mathlib.Core.List.{List, [], ◌∷◌, ◌++◌}
 use native.Mathlib.Nat.{mul-zero, mul-le-mul, mul-le-mul_left, mul-le-mul_right}
 use native.Mathlib.Omega.{arith}
 use borrow.Author.Tests.{leb-true, leb-false, ltb-true, ltb-false}
 use lib.Dec.{leb, ltb}
-use lib.IntN.{pos, ◌-ℤ◌, ◌*ℤ◌}
+use lib.IntN.{pos, ◌+ℤ◌, ◌-ℤ◌, ◌*ℤ◌}
 use lib.ListN.{length, take, drop, length-map}
-use lib.Seq.{drop-length}
+use lib.Seq.{length-take-le, take-length, drop-length}
 use lib.Signed.{lt_z}
 use Rattle.table.specs.Table.{Table, Grade, Every, Counted, survivors, defaults_in, survivors_in}
 use Rattle.table.proofs.Sums.{obligors_split}
 use Rattle.pooling.specs.declared.Block.{Block}
 use Rattle.pooling.specs.Pool.{as_grade}
-use Rattle.pooling.specs.Private.{block_at_lem, blocks_in_lem}
-use Rattle.pooling.proofs.Words.{length_words}
 use Rattle.cutoff.specs.declared.Counts.{Counts}
 use Rattle.cutoff.specs.declared.Lead.{Lead}
 use Rattle.cutoff.specs.declared.Weights.{Weights}
 use Rattle.cutoff.specs.Cutoff.{NoDearer}
-use Rattle.cutoff.specs.Sweep.{scale_in, Sweepable, in_weights, Light, Matched, most_pairs, counts_in, Few, FitsSigned, ahead, behind, caught_after, lost_after}
+use Rattle.cutoff.specs.Sweep.{scale_in, Sweepable, in_weights, Light, Opposed, most_pairs, counts_in, Few, FitsSigned, ahead, behind, caught_after, lost_after}
 use Rattle.cutoff.specs.Sweep.{Leads, IsLead, accepted_in, SmallIn, Turned, DearerAtBlock}
 use Rattle.cutoff.proofs.Cost.{dearer, no_dearer, drop_le}
 use Rattle.cutoff.proofs.Odds.{OddsBelow, OddsRise, Away, odds_at_most, rising_odds}
 use Rattle.cutoff.proofs.Weighted.{weigh-survivors, weighted_defaults, weighted-survivors, weighted-cost}
 use Rattle.cutoff.proofs.Cuts.{Cuts, odds_worse, accepted_le, accepted_before, accepted_after, accepted_fewer}
 use Rattle.cutoff.proofs.Cuts.{accepted_cuts, cuts_at, cuts_dearer, cuts_no_dearer}
-use Rattle.cutoff.proofs.Held.{grade_before, Next, next, Words, words}
-use Rattle.cutoff.proofs.Leads.{FewIn, few_worst, with_next, few_next, goes_ahead, falls_behind, behind_fits, costs_fit, costs_compare}
+use Rattle.cutoff.proofs.Held.{grade_before, Next, next, Last, last}
+use Rattle.cutoff.proofs.Leads.{FewIn, few_worst, with_next, few_next, goes_ahead, ahead_fits, falls_behind, behind_fits, costs_fit, costs_compare}
 
--- The next better block, as the code reads it.
-pub record Turn (w : List ℕ) (from k : ℕ) : Type 0 where
-  pub words : Words w from k
-  pub here : Next (scale_in w) k
-  pub few : (grade_before (scale_in w) k).obligors ≤ 1_000_000
+-- The next better block, as the code takes it.
+pub record Turn (bs : List Block) (k : ℕ) (rest : List Block) (b : Block) : Type 0 where
+  pub last : Last bs k rest b
+  pub here : Next (scale_in bs) k
+  pub counted : Counted (as_grade b) × (b.obligors.0 ≤ 1_000_000)
 
-pub turn : {w : List ℕ} {from k : ℕ} → Sweepable w → k ≤ length (scale_in w) → from ≡ 3 * k → 0 < from → Turn w from k
-turn {w} {from} {k} known few e h =
-    let block = words w from k known.exact few e h in
-    let n = next (scale_in w) known.counted k block.some few in
-    let all = obligors_split (scale_in w) known.counted in
-    record { words = block; here = n; few = omega (arith, n.counted, n.few_defaults, n.few_survivors, known.total) }
+turn : {bs : List Block} {k : ℕ} {left rest : List Block} {b : Block} → Sweepable bs → k ≤ length (scale_in bs) → left ≡ take k bs
+    → left ≡ rest ++ b ∷ [] → Turn bs k rest b
+turn {bs} {k} {left} {rest} {b} known few is e =
+    let l = last bs k rest b (rw length-map at few) (sym is ∙ e) in
+    let n = next (scale_in bs) known.counted k l.some few in
+    let all = obligors_split (scale_in bs) known.counted in
+    let small : (grade_before (scale_in bs) k).obligors ≤ 1_000_000 = omega (arith, n.counted, n.few_defaults, n.few_survivors, known.total) in
+    record { last = l; here = n; counted = (rw (← l.here) at n.counted, omega (arith, ap (λ (r : Grade). r.obligors) l.here, small)) }
 
-module _ {w : List ℕ} {from k : ℕ} (t : Turn w from k) {x : Block} (e : x ≡ block_at_lem w (from - 3)) where
-  pub turn_block : as_grade x ≡ grade_before (scale_in w) k
-  turn_block = ap as_grade e ∙ t.words.here
-
-  pub turn_counted : Counted (as_grade x) × (x.obligors.0 ≤ 1_000_000)
-  turn_counted = (rw (← turn_block) at t.here.counted, omega (arith, ap (λ (r : Grade). r.obligors) turn_block, t.few))
-
-  pub turn_counts : (weights : Weights) {c : Counts} → c ≡ counts_in weights (as_grade x) → c ≡ counts_in weights (grade_before (scale_in w) k)
-  turn_counts weights f = f ∙ ap (λ (g : Grade). counts_in weights g) turn_block
+turn_counts : {bs : List Block} {k : ℕ} {rest : List Block} {b : Block} → Turn bs k rest b → (weights : Weights) {c : Counts}
+    → c ≡ counts_in weights (as_grade b) → c ≡ counts_in weights (grade_before (scale_in bs) k)
+turn_counts t weights f = f ∙ ap (λ (g : Grade). counts_in weights g) t.last.here
 
 -- What a scale counts is few, in light weights.
-pub few_in : {w : List ℕ} (weights : Weights) → Sweepable w → Light weights → FewIn weights (scale_in w)
-few_in {w} weights known light =
-    let all = obligors_split (scale_in w) known.counted in
-    let d : defaults_in (scale_in w) ≤ 1_000_000 = omega (arith, all, known.total) in
-    let s : survivors_in (scale_in w) ≤ 1_000_000 = omega (arith, all, known.total) in
+few_in : {bs : List Block} (weights : Weights) → Sweepable bs → Light weights → FewIn weights (scale_in bs)
+few_in {bs} weights known light =
+    let all = obligors_split (scale_in bs) known.counted in
+    let d : defaults_in (scale_in bs) ≤ 1_000_000 = omega (arith, all, known.total) in
+    let s : survivors_in (scale_in bs) ≤ 1_000_000 = omega (arith, all, known.total) in
     (omega (arith, mul-le-mul light.0 d), omega (arith, mul-le-mul light.1 s))
 
--- The second's cheapest cutoff at the break-even prices of a block: on the way from l₀, which turns nothing away that is accepted there.
+-- No block is left.
+none_left : (bs : List Block) {k : ℕ} {rest : List Block} → k ≤ length (scale_in bs) → rest ≡ take k bs → length rest ≡ 0 → k ≡ 0
+none_left bs {k} {rest} few is none = sym (length-take-le k bs (rw length-map at few)) ∙ ap length (sym is) ∙ none
 
-pub record Turning (w : Weights) (at : Counts) (t : Table) (l₀ l : Lead) : Type 0 where
+-- The second's cheapest cutoff at the break-even prices of a block: on the way from l₀, which turns nothing away that is accepted there. So many of
+-- the second's blocks are accepted yet.
+pub record Turning (w : Weights) (at : Counts) (bs : List Block) (l₀ : Lead) (rest : List Block) (l : Lead) : Type 0 where
   pub accepted : ℕ
-  pub few : accepted ≤ length t
-  pub fewer : accepted_in w at t ≤ accepted
-  pub leads : (k y x : ℕ) → Leads w t k y x l₀ → Leads w t accepted y x l
+  pub few : accepted ≤ length (scale_in bs)
+  pub is_left : rest ≡ take accepted bs
+  pub fewer : accepted_in w at (scale_in bs) ≤ accepted
+  pub leads : (k y x : ℕ) → Leads w (scale_in bs) k y x l₀ → Leads w (scale_in bs) accepted y x l
 
-pub turning_starts : {w : Weights} {at : Counts} {t : Table} {l : Lead} → IsLead w t l → 3 * accepted_in w at t ≤ l.from → Turning w at t l l
-turning_starts {w} {at} {t} {l} i fewer =
-    record {
-      accepted = i.accepted;
-      few = i.few;
-      fewer = omega (arith, i.leads.from);
-      leads = λ k y x h. let e : k ≡ i.accepted = omega (arith, h.from, i.leads.from) in rw e at h;
-    }
+module _ {w : Weights} {at : Counts} {bs : List Block} {l₀ : Lead} {left : List Block} {l : Lead} (on : Turning w at bs l₀ left l) where
+  abbrev t : Table
+  t = scale_in bs
 
-module _ {w : Weights} {at : Counts} {t : Table} {l₀ l : Lead} (on : Turning w at t l₀ l) where
-  pub turning_ended : accepted_in w at t ≡ on.accepted → Turned w at t l₀ l
+  turning_ended : accepted_in w at (scale_in bs) ≡ on.accepted → Turned w at (scale_in bs) l₀ l
   turning_ended e k y x h = rw e (on.leads k y x h)
+
+  pub turning_next : {rest : List Block} {b : Block} → Sweepable bs → left ≡ rest ++ b ∷ [] → Turn bs on.accepted rest b
+  turning_next known e = turn known on.few on.is_left e
+
+  pub turning_done : length left ≡ 0 → Turned w at (scale_in bs) l₀ l
+  turning_done none = turning_ended (omega (arith, on.fewer, none_left bs on.few on.is_left none))
 
   abbrev g : Grade
   g = grade_before t on.accepted
 
-  module _ (n : Next t on.accepted) {c : Counts} (is : c ≡ counts_in w g) where
-    -- What the next better block costs is small where all of the scale is.
-    pub turning_small : SmallIn w t at
+  -- A turn looks at the next better block, which counts c.
+  module _ {rest : List Block} {b : Block} (next : Turn bs on.accepted rest b) {c : Counts} (e : c ≡ counts_in w (as_grade b)) where
+    n : Next (scale_in bs) on.accepted
+    n = next.here
+
+    is : c ≡ counts_in w (grade_before (scale_in bs) on.accepted)
+    is = turn_counts next w e
+
+    -- What it costs is small where all of the scale is.
+    pub turning_small : SmallIn w (scale_in bs) at
         → (at.defaults * c.survivors ≤ most_pairs) × (at.survivors * c.defaults ≤ most_pairs)
     turning_small small =
         let s : survivors g ≤ survivors_in t = omega (arith, n.few_survivors) in
@@ -100,7 +106,8 @@ module _ {w : Weights} {at : Counts} {t : Table} {l₀ l : Lead} (on : Turning w
         )
 
     -- It is not turned away.
-    pub turning_stops : OddsRise t → leb (at.defaults * c.survivors) (at.survivors * c.defaults) ≡ false → Turned w at t l₀ l
+    pub turning_stops : OddsRise (scale_in bs) → leb (at.defaults * c.survivors) (at.survivors * c.defaults) ≡ false
+        → Turned w at (scale_in bs) l₀ l
     turning_stops odds test =
         let lt = rw is at (leb-false (at.defaults * c.survivors) (at.survivors * c.defaults) test) in
         let p = take (on.accepted - 1) t in
@@ -109,19 +116,30 @@ module _ {w : Weights} {at : Counts} {t : Table} {l₀ l : Lead} (on : Turning w
         turning_ended (omega (arith, rw n.split at after, n.better, on.fewer))
 
     -- It is.
-    pub turning_on : {r : Lead} → 0 < on.accepted → leb (at.defaults * c.survivors) (at.survivors * c.defaults) ≡ true
-        → r ≡ ahead l c → Turning w at t l₀ r
-    turning_on {r} some test e =
+    pub turning_on : {r : Lead} → leb (at.defaults * c.survivors) (at.survivors * c.defaults) ≡ true → r ≡ ahead l c → Turning w at bs l₀ rest r
+    turning_on {r} test f =
         let le = rw is at (leb-true (at.defaults * c.survivors) (at.survivors * c.defaults) test) in
         let p = take (on.accepted - 1) t in
         let s = drop on.accepted t in
+        let some = next.last.some in
         let before = accepted_before (at.survivors * w.defaults) (at.defaults * w.survivors.0) p g s (omega (arith, le)) in
         record {
           accepted = on.accepted - 1;
           few = omega (arith, on.few);
+          is_left = next.last.before;
           fewer = omega (arith, rw n.split at before, n.better);
-          leads = λ k y x h. goes_ahead (on.leads k y x h) n (e ∙ rw is);
+          leads = λ k y x h. goes_ahead (on.leads k y x h) n (f ∙ rw is);
         }
+
+    -- It goes on from this lead.
+    pub turning_fits : Sweepable bs → Light w → IsLead w (scale_in bs) l₀
+        → (1 ≤ l.accepted) × (Few c × (FitsSigned (l.defaults +ℤ pos c.defaults) × FitsSigned (l.survivors +ℤ pos c.survivors)))
+    turning_fits known light from =
+        let few = few_in w known light in
+        let leads = on.leads _ _ _ from.leads in (
+          omega (arith, next.last.some, leads.accepted),
+          (rw is (few_next w n few), rw is (ahead_fits leads n few from.few_caught from.few_lost)),
+        )
 
 -- What is turned away at the prices of a block is turned away at those of a better one.
 away_better : (own of : Weights) (b c r : Grade) → OddsBelow b c
@@ -134,17 +152,17 @@ away_better own of b c r h k =
           b.defaults (survivors b) c.defaults (survivors c) h (omega arith),
     )
 
--- Two scales that match in weights: i words of the first's blocks are left, and all others have been tried and found no dearer; l is the lead
--- of a cutoff of the second over the one that turns them away, and at the prices of the next it turns nothing away that is accepted.
-pub record Swept (w₁ w₂ : Weights) (t₁ t₂ : Table) (i : ℕ) (l : Lead) : Type 0 where
+-- Two scales that match in weights: some of the first's blocks are left, and all others have been tried and found no dearer; l is the lead of
+-- a cutoff of the second over the one that turns them away, and at the prices of the next it turns nothing away that is accepted.
+pub record Swept (w₁ w₂ : Weights) (bs : List Block) (t₂ : Table) (rest : List Block) (l : Lead) : Type 0 where
   pub left : ℕ
-  pub few_left : left ≤ length t₁
-  pub from : i ≡ 3 * left
+  pub few_left : left ≤ length (scale_in bs)
+  pub is_left : rest ≡ take left bs
   pub accepted : ℕ
   pub few : accepted ≤ length t₂
-  pub leads : Leads w₂ t₂ accepted (caught_after w₁ t₁ left) (lost_after w₁ t₁ left) l
-  pub tried : Every (λ b. NoDearer (survivors b) b.defaults (in_weights w₁ t₁) (in_weights w₂ t₂)) (in_weights w₁ (drop left t₁))
-  pub fewer : 0 < left → 3 * accepted_in w₂ (counts_in w₁ (grade_before t₁ left)) t₂ ≤ l.from
+  pub leads : Leads w₂ t₂ accepted (caught_after w₁ (scale_in bs) left) (lost_after w₁ (scale_in bs) left) l
+  pub tried : Every (λ b. NoDearer (survivors b) b.defaults (in_weights w₁ (scale_in bs)) (in_weights w₂ t₂)) (in_weights w₁ (drop left (scale_in bs)))
+  pub fewer : 0 < left → accepted_in w₂ (counts_in w₁ (grade_before (scale_in bs) left)) t₂ ≤ l.accepted
 
 -- What is known of them.
 pub record Scales (w₁ w₂ : Weights) (t₁ t₂ : Table) : Type 0 where
@@ -157,58 +175,78 @@ pub record Scales (w₁ w₂ : Weights) (t₁ t₂ : Table) : Type 0 where
   pub same_survivors : w₁.survivors.0 * survivors_in t₁ ≡ w₂.survivors.0 * survivors_in t₂
   pub few_pairs : w₁.defaults * defaults_in t₁ * (w₁.survivors.0 * survivors_in t₁) ≤ most_pairs
 
-pub scales : {first second : List ℕ} (w₁ w₂ : Weights) → Sweepable first → Sweepable second → Light w₁ → Light w₂
-    → Matched (in_weights w₁ (scale_in first)) (in_weights w₂ (scale_in second)) → Scales w₁ w₂ (scale_in first) (scale_in second)
-scales {first} {second} w₁ w₂ known₁ known₂ light₁ light₂ matched =
+scales : {first second : List Block} {w₁ w₂ : Weights} → Opposed w₁ w₂ first second → Scales w₁ w₂ (scale_in first) (scale_in second)
+scales {first} {second} {w₁} {w₂} k =
     let d₁ = weighted_defaults w₁.defaults w₁.survivors.0 (scale_in first) in
     let s₁ = weighted-survivors w₁.defaults w₁.survivors.0 (scale_in first) in
     record {
-      odds₁ = rising_odds _ known₁.rising known₁.counted;
-      odds₂ = rising_odds _ known₂.rising known₂.counted;
-      counted = known₁.counted;
-      few₁ = few_in w₁ known₁ light₁;
-      few₂ = few_in w₂ known₂ light₂;
-      same_defaults = sym d₁ ∙ matched.same_defaults ∙ weighted_defaults w₂.defaults w₂.survivors.0 (scale_in second);
-      same_survivors = sym s₁ ∙ matched.same_survivors ∙ weighted-survivors w₂.defaults w₂.survivors.0 (scale_in second);
-      few_pairs = rw (d₁, s₁) at matched.few_pairs;
+      odds₁ = rising_odds _ k.sweepable₁.rising k.sweepable₁.counted;
+      odds₂ = rising_odds _ k.sweepable₂.rising k.sweepable₂.counted;
+      counted = k.sweepable₁.counted;
+      few₁ = few_in w₁ k.sweepable₁ k.light₁;
+      few₂ = few_in w₂ k.sweepable₂ k.light₂;
+      same_defaults = sym d₁ ∙ k.matched.same_defaults ∙ weighted_defaults w₂.defaults w₂.survivors.0 (scale_in second);
+      same_survivors = sym s₁ ∙ k.matched.same_survivors ∙ weighted-survivors w₂.defaults w₂.survivors.0 (scale_in second);
+      few_pairs = rw (d₁, s₁) at k.matched.few_pairs;
     }
 
--- the words of all blocks
-all_words : {w : List ℕ} → Sweepable w → length w ≡ 3 * length (scale_in w)
-all_words {w} known = rw length-map (ap length known.exact ∙ length_words (blocks_in_lem w))
-
 -- Nothing has been tried.
-pub none_swept : {w₁ w₂ : Weights} {first second : List ℕ} {l : Lead} → Sweepable first → Sweepable second
-    → l ≡ record { from = length second; defaults = pos 0; survivors = pos 0 } → Swept w₁ w₂ (scale_in first) (scale_in second) (length first) l
+pub none_swept : (w₁ w₂ : Weights) (first second : List Block) {l : Lead}
+    → l ≡ record { accepted = length second; defaults = pos 0; survivors = pos 0 } → {rest : List Block} → rest ≡ first
+    → Swept w₁ w₂ first (scale_in second) rest l
 unfolding defaults_in survivors_in
-none_swept {w₁} {w₂} {first} {second} {l} known₁ known₂ e =
+none_swept w₁ w₂ first second {l} e whole =
     let t₁ = scale_in first in
     let t₂ = scale_in second in
+    let all : length second ≡ length t₂ = sym (length-map second as_grade) in
     record {
       left = length t₁;
       few_left = omega arith;
-      from = all_words known₁;
+      is_left = rw length-map (whole ∙ sym (take-length first));
       accepted = length t₂;
       few = omega arith;
       leads = rw e record {
-        from = all_words known₂;
+        accepted = all;
         defaults = rw (drop-length t₁, drop-length t₂, mul-zero w₁.defaults, mul-zero w₂.defaults);
         survivors = rw (drop-length t₁, drop-length t₂, mul-zero w₁.survivors.0, mul-zero w₂.survivors.0);
       };
       tried = rw (drop-length t₁) tt;
       fewer = λ _.
           let a = counts_in w₁ (grade_before t₁ (length t₁)) in
-          rw e (omega (arith, all_words known₂, accepted_le (a.survivors * w₂.defaults) (a.defaults * w₂.survivors.0) t₂));
+          rw e (omega (arith, all, accepted_le (a.survivors * w₂.defaults) (a.defaults * w₂.survivors.0) t₂));
     }
 
--- A turn at the break-even prices of b, the next better block of the first.
-module _ {w₁ w₂ : Weights} {t₁ t₂ : Table} {i : ℕ} {l : Lead} (known : Scales w₁ w₂ t₁ t₂) (inv : Swept w₁ w₂ t₁ t₂ i l)
-    (more : 0 < inv.left) {a : Counts} (at : a ≡ counts_in w₁ (grade_before t₁ inv.left)) where
+-- The next better block of the first.
+pub swept_next : {w₁ w₂ : Weights} {bs : List Block} {t₂ : Table} {left : List Block} {l : Lead} → Sweepable bs → (inv : Swept w₁ w₂ bs t₂ left l)
+    → {rest : List Block} {x : Block} → left ≡ rest ++ x ∷ [] → Turn bs inv.left rest x
+swept_next known inv e = turn known inv.few_left inv.is_left e
+
+-- None is left.
+pub swept_all : {w₁ w₂ : Weights} {bs : List Block} {t₂ : Table} {left : List Block} {l : Lead} → Swept w₁ w₂ bs t₂ left l → length left ≡ 0
+    → Every (λ b. NoDearer (survivors b) b.defaults (in_weights w₁ (scale_in bs)) (in_weights w₂ t₂)) (in_weights w₁ (scale_in bs))
+swept_all {bs = bs} inv none = rw (none_left bs inv.few_left inv.is_left none) at inv.tried
+
+-- A turn at its break-even prices.
+module _ {w₁ w₂ : Weights} {bs second left : List Block} {l : Lead} (opposed : Opposed w₁ w₂ bs second)
+    (inv : Swept w₁ w₂ bs (scale_in second) left l) {rest : List Block} {x : Block} (turned-to : Turn bs inv.left rest x)
+    {a : Counts} (counts : a ≡ counts_in w₁ (as_grade x)) where
+  known : Scales w₁ w₂ (scale_in bs) (scale_in second)
+  known = scales opposed
+
+  at : a ≡ counts_in w₁ (grade_before (scale_in bs) inv.left)
+  at = turn_counts turned-to w₁ counts
+
+  abbrev t₂ : Table
+  t₂ = scale_in second
+
+  abbrev t₁ : Table
+  t₁ = scale_in bs
+
   abbrev b : Grade
   b = grade_before t₁ inv.left
 
   here : Next t₁ inv.left
-  here = next t₁ known.counted inv.left more inv.few_left
+  here = turned-to.here
 
   abbrev u : ℕ
   u = w₁.survivors.0 * survivors b
@@ -239,17 +277,16 @@ module _ {w₁ w₂ : Weights} {t₁ t₂ : Table} {i : ℕ} {l : Lead} (known :
   is_lead =
       let f = few_worst w₁ t₁ inv.left known.few₁ in
       record {
-        accepted = inv.accepted;
         caught = caught_after w₁ t₁ inv.left;
         lost = lost_after w₁ t₁ inv.left;
-        few = inv.few;
+        few = omega (arith, inv.few, inv.leads.accepted);
         few_caught = f.0;
         few_lost = f.1;
-        leads = inv.leads;
+        leads = rw (← inv.leads.accepted) at inv.leads;
       }
 
-  pub fewer_at : 3 * accepted_in w₂ a t₂ ≤ l.from
-  fewer_at = rw at (inv.fewer more)
+  pub fewer_at : accepted_in w₂ a t₂ ≤ l.accepted
+  fewer_at = rw at (inv.fewer turned-to.last.some)
 
   -- The first's cutoff in hand is its cheapest.
   cuts₁ : Cuts t₁ (drop inv.left t₁) (u * w₁.defaults) (v * w₁.survivors.0)
@@ -293,9 +330,9 @@ module _ {w₁ w₂ : Weights} {t₁ t₂ : Table} {i : ℕ} {l : Lead} (known :
     test : lt_z (pos a.defaults *ℤ r.survivors) (pos a.survivors *ℤ r.defaults) ≡ ltb side₁ side₂
     test = rw at (costs_compare leads_at (counts_in w₁ b))
 
-    pub found : {x : Block} {shown : Bool} → as_grade x ≡ b
-        → shown ≡ lt_z (pos a.defaults *ℤ r.survivors) (pos a.survivors *ℤ r.defaults) → shown ≡ true → DearerAtBlock w₁ w₂ t₁ t₂ x
-    found {x} e is holds =
+    pub found : {shown : Bool} → shown ≡ lt_z (pos a.defaults *ℤ r.survivors) (pos a.survivors *ℤ r.defaults) → shown ≡ true → DearerAtBlock w₁ w₂ t₁ t₂ x
+    found is holds =
+        let e = turned-to.last.here in
         let lt = cuts_dearer same cuts₁ cuts₂ (omega (arith, ltb-true side₁ side₂ (sym (is ∙ test) ∙ holds))) in
         let more = dearer u v (in_weights w₁ t₁) (in_weights w₂ t₂)
         (omega (arith, weighted-cost w₁.defaults w₁.survivors.0 t₁ u v, weighted-cost w₂.defaults w₂.survivors.0 t₂ u v, lt)) in
@@ -309,7 +346,7 @@ module _ {w₁ w₂ : Weights} {t₁ t₂ : Table} {i : ℕ} {l : Lead} (known :
         }
 
     pub passes : {s : Lead} {shown : Bool} → shown ≡ lt_z (pos a.defaults *ℤ r.survivors) (pos a.survivors *ℤ r.defaults) → shown ≡ false
-        → s ≡ behind r a → Swept w₁ w₂ t₁ t₂ (i - 3) s
+        → s ≡ behind r a → Swept w₁ w₂ bs (scale_in second) rest s
     passes {s} is fails e =
         let k = inv.left in
         let le = cuts_no_dearer same cuts₁ cuts₂ (omega (arith, ltb-false side₁ side₂ (sym (is ∙ test) ∙ fails))) in
@@ -321,7 +358,7 @@ module _ {w₁ w₂ : Weights} {t₁ t₂ : Table} {i : ℕ} {l : Lead} (known :
         record {
           left = k - 1;
           few_left = omega (arith, inv.few_left);
-          from = omega (arith, inv.from);
+          is_left = turned-to.last.before;
           accepted = k₂;
           few = accepted_le (u * w₂.defaults) (v * w₂.survivors.0) t₂;
           leads = leads;
@@ -330,5 +367,5 @@ module _ {w₁ w₂ : Weights} {t₁ t₂ : Table} {i : ℕ} {l : Lead} (known :
               let c = grade_before t₁ (k - 1) in
               let n' = next t₁ known.counted (k - 1) m (omega (arith, inv.few_left)) in
               let below = (rw here.down at (odds_worse (take (k - 1 - 1) t₁) (c ∷ drop (k - 1) t₁) (rw n'.split known.odds₁))).0.0 in
-              omega (arith, leads.from, accepted_fewer _ _ _ _ (λ x. away_better w₁ w₂ c b x below) t₂);
+              omega (arith, leads.accepted, accepted_fewer _ _ _ _ (λ x. away_better w₁ w₂ c b x below) t₂);
         }

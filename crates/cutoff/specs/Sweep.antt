@@ -1,41 +1,40 @@
 -- Serves contracts of functions inside the library only: what is promised does not rest on it.
 -- The search for prices at which one scale costs more than another, each in its weights, and the verdict that two searches make.
-use Rattle.std.specs.Prelude.{ℕ, suc, ◌-◌, ◌*◌, ◌≤◌, ◌<◌, ◌≡◌, cond, List, [], ◌∷◌, map, leb, ℤ, pos, nat_abs, ◌+ℤ◌, ◌-ℤ◌, length, drop}
+use Rattle.std.specs.Prelude.{ℕ, suc, ◌-◌, ◌*◌, ◌≤◌, ◌<◌, ◌≡◌, cond, List, [], ◌∷◌, map, leb, ℤ, pos, nat_abs, ◌+ℤ◌, ◌-ℤ◌, length, drop, Option, Some, None}
 use Rattle.std.proofs.Math.IntN.{sub_ℕ}
 use Rattle.table.specs.Table.{Table, Grade, Every, Occupied, Counted, survivors, defaults_in, survivors_in, obligors_in}
 use Rattle.table.specs.Counts.{largest}
 use Rattle.pooling.specs.declared.Block.{Block}
 use Rattle.pooling.specs.Pool.{Rising, as_grade}
-use Rattle.pooling.specs.Private.{block_words, blocks_in_lem}
 use Rattle.cutoff.specs.Cutoff.{IsCheapest, NoDearer}
+use Rattle.cutoff.specs.Verdict.{calls_first, calls_second, FirstDearer, SecondDearer, never_dearer_lem}
 use Rattle.cutoff.specs.Weighted.{weighted}
 use Rattle.cutoff.specs.declared.Weights.{Weights}
 use Rattle.cutoff.specs.declared.Counts.{Counts}
 use Rattle.cutoff.specs.declared.Lead.{Lead}
 use Rattle.cutoff.specs.declared.Price.{Price}
-use Rattle.cutoff.specs.declared.Found.{Found}
-use Rattle.cutoff.specs.declared.Found.TheVariants.{One, Nothing}
-use Rattle.cutoff.specs.declared.Dearer.{Dearer}
-use Rattle.cutoff.specs.declared.Dearer.TheVariants.{At, Nowhere}
 use Rattle.cutoff.specs.declared.Verdict.{Verdict}
 use Rattle.cutoff.specs.declared.Verdict.TheVariants.{Equal, First, Second, Crossing}
 
 -- The scales.
 
--- the scale whose grades are the blocks in these words
-abbrev pub scale_in : List ℕ → Table
-scale_in w = map as_grade (blocks_in_lem w)
+-- the scale whose grades are these blocks
+abbrev pub scale_in : List Block → Table
+scale_in bs = map as_grade bs
 
--- What is known of the words of the blocks of a sound table.
-pub record Sweepable (w : List ℕ) : Type 0 where
-  pub exact : w ≡ block_words (blocks_in_lem w)
-  pub rising : Rising (blocks_in_lem w)
-  pub occupied : Every Occupied (scale_in w)
-  pub counted : Every Counted (scale_in w)
-  pub total : obligors_in (scale_in w) ≤ 1_000_000
+-- What is known of the blocks of a sound table.
+pub record Sweepable (bs : List Block) : Type 0 where
+  pub rising : Rising bs
+  pub occupied : Every Occupied (scale_in bs)
+  pub counted : Every Counted (scale_in bs)
+  pub total : obligors_in (scale_in bs) ≤ 1_000_000
 
 abbrev pub in_weights : Weights → Table → Table
 in_weights w t = weighted w.defaults w.survivors.0 t
+
+-- each counts once
+abbrev pub once : Weights
+once = record { defaults = 1; survivors = record { 0 = 1 } }
 
 -- weights that a table of at most 100,000 obligors can have as its totals
 abbrev pub Light : Weights → Type 0
@@ -50,6 +49,14 @@ pub record Matched (t₁ t₂ : Table) : Type 0 where
   pub same_defaults : defaults_in t₁ ≡ defaults_in t₂
   pub same_survivors : survivors_in t₁ ≡ survivors_in t₂
   pub few_pairs : defaults_in t₁ * survivors_in t₁ ≤ most_pairs
+
+-- Two scales, each in its weights, that can be searched for where one of them costs more.
+pub record Opposed (w₁ w₂ : Weights) (first second : List Block) : Type 0 where
+  pub sweepable₁ : Sweepable first
+  pub sweepable₂ : Sweepable second
+  pub light₁ : Light w₁
+  pub light₂ : Light w₂
+  pub matched : Matched (in_weights w₁ (scale_in first)) (in_weights w₂ (scale_in second))
 
 -- The search.
 
@@ -67,11 +74,11 @@ FitsSigned z = nat_abs z ≤ most_pairs
 
 -- the lead once the second turns one more block away,
 abbrev pub ahead : Lead → Counts → Lead
-ahead l b = record { from = l.from - 3; defaults = l.defaults +ℤ pos b.defaults; survivors = l.survivors +ℤ pos b.survivors }
+ahead l b = record { accepted = l.accepted - 1; defaults = l.defaults +ℤ pos b.defaults; survivors = l.survivors +ℤ pos b.survivors }
 
 -- or the first
 abbrev pub behind : Lead → Counts → Lead
-behind l b = record { from = l.from; defaults = l.defaults -ℤ pos b.defaults; survivors = l.survivors -ℤ pos b.survivors }
+behind l b = record { accepted = l.accepted; defaults = l.defaults -ℤ pos b.defaults; survivors = l.survivors -ℤ pos b.survivors }
 
 -- the defaults that the cutoff which accepts the k best blocks of t catches, and the survivors that it turns away
 abbrev pub caught_after : Weights → Table → ℕ → ℕ
@@ -82,19 +89,18 @@ lost_after w t k = w.survivors.0 * survivors_in (drop k t)
 
 -- The lead l of that cutoff over one that catches y defaults and turns x survivors away.
 pub record Leads (w : Weights) (t : Table) (k y x : ℕ) (l : Lead) : Type 0 where
-  pub from : l.from ≡ 3 * k
+  pub accepted : l.accepted ≡ k
   pub defaults : l.defaults ≡ sub_ℕ (caught_after w t k) y
   pub survivors : l.survivors ≡ sub_ℕ (lost_after w t k) x
 
 -- It is the lead of some cutoff of t over one that catches and turns away few.
 pub record IsLead (w : Weights) (t : Table) (l : Lead) : Type 0 where
-  pub accepted : ℕ
   pub caught : ℕ
   pub lost : ℕ
-  pub few : accepted ≤ length t
+  pub few : l.accepted ≤ length t
   pub few_caught : caught ≤ 100_000_000_000
   pub few_lost : lost ≤ 100_000_000_000
-  pub leads : Leads w t accepted caught lost l
+  pub leads : Leads w t l.accepted caught lost l
 
 -- how many blocks are accepted at u and v: those before the first whose survivors cost no more than its defaults
 unfoldable pub accepted_at : ℕ → ℕ → Table → ℕ
@@ -126,28 +132,66 @@ pub record DearerAtBlock (w₁ w₂ : Weights) (t₁ t₂ : Table) (b : Block) :
       → c₂ < c₁
 
 -- such a block; or t₁ costs no more at the break-even prices of any of its own grades
-abbrev pub Finds : Weights → Weights → Table → Table → Found → Type 0
-Finds w₁ w₂ t₁ t₂ (One b) = DearerAtBlock w₁ w₂ t₁ t₂ b
-Finds w₁ w₂ t₁ t₂ Nothing = Every (λ b. NoDearer (survivors b) b.defaults (in_weights w₁ t₁) (in_weights w₂ t₂)) (in_weights w₁ t₁)
+abbrev pub Finds : Weights → Weights → Table → Table → Option Block → Type 0
+Finds w₁ w₂ t₁ t₂ (Some b) = DearerAtBlock w₁ w₂ t₁ t₂ b
+Finds w₁ w₂ t₁ t₂ None = Every (λ b. NoDearer (survivors b) b.defaults (in_weights w₁ t₁) (in_weights w₂ t₂)) (in_weights w₁ t₁)
 
--- The verdict.
+-- The prices.
 
 -- the break-even prices of a block, in the other scale's weights
 abbrev pub price_in : Weights → Block → Price
 price_in other b = record { u = survivors (as_grade b) * other.defaults; v = b.defaults * other.survivors.0 }
 
--- They are numbers of 32 bits.
-abbrev pub SmallPrice : Weights → Found → Type 0
-SmallPrice other (One b) = Counted (as_grade b) × (((price_in other b).u ≤ largest) × ((price_in other b).v ≤ largest))
-SmallPrice other Nothing = Unit {0}
+-- They are numbers of 32 bits,
+abbrev pub SmallPrice : Weights → Option Block → Type 0
+SmallPrice other (Some b) = Counted (as_grade b) × (((price_in other b).u ≤ largest) × ((price_in other b).v ≤ largest))
+SmallPrice other None = Unit {0}
 
-abbrev pub dearer_at : Weights → Found → Dearer
-dearer_at other (One b) = At (price_in other b)
-dearer_at other Nothing = Nowhere
+-- as is what all survivors, and all defaults, of t count in these weights.
+abbrev pub SmallPrices : Weights → Table → Type 0
+SmallPrices other t = (survivors_in t * other.defaults ≤ largest) × (defaults_in t * other.survivors.0 ≤ largest)
+
+abbrev pub dearer_at : Weights → Option Block → Option Price
+dearer_at other (Some b) = Some (price_in other b)
+dearer_at other None = None
+
+-- The prices of a block that a search finds.
+pub record FindsPrices (w₁ w₂ : Weights) (t₁ t₂ : Table) (p : Option Price) : Type 0 where
+  pub block : Option Block
+  pub finds : Finds w₁ w₂ t₁ t₂ block
+  pub prices : p ≡ dearer_at w₂ block
+
+-- The verdict.
 
 -- the verdict that two searches make
-abbrev pub verdict_of : Dearer → Dearer → Verdict
-verdict_of Nowhere Nowhere = Equal
-verdict_of Nowhere (At q) = First q
-verdict_of (At p) Nowhere = Second p
-verdict_of (At p) (At q) = Crossing p q
+abbrev pub verdict_of : Option Price → Option Price → Verdict
+verdict_of None None = Equal
+verdict_of None (Some q) = First q
+verdict_of (Some p) None = Second p
+verdict_of (Some p) (Some q) = Crossing p q
+
+-- weights in which each default and each survivor counts
+abbrev pub Positive : Weights → Type 0
+Positive w = (1 ≤ w.defaults) × (1 ≤ w.survivors.0)
+
+-- Two scales that can be searched both ways for prices.
+pub record Comparable (w₁ w₂ : Weights) (first second : List Block) : Type 0 where
+  pub opposed : Opposed w₁ w₂ first second
+  pub positive : Positive w₁ × Positive w₂
+  pub small : SmallPrices w₂ (scale_in first) × SmallPrices w₁ (scale_in second)
+
+-- At the prices p, counted in both scales' weights, t₁ costs more than t₂, each in its own.
+pub record DearerInWeights (w₁ w₂ : Weights) (t₁ t₂ : Table) (p : Price) : Type 0 where
+  pub missed : p.u ≤ survivors_in t₁ * w₂.defaults
+  pub turned-away : p.v ≤ defaults_in t₁ * w₂.survivors.0
+  pub more : (c₁ c₂ : ℕ)
+      → IsCheapest (in_weights w₁ t₁) (p.u * (w₁.survivors.0 * w₂.survivors.0)) (p.v * (w₁.defaults * w₂.defaults)) c₁
+      → IsCheapest (in_weights w₂ t₂) (p.u * (w₁.survivors.0 * w₂.survivors.0)) (p.v * (w₁.defaults * w₂.defaults)) c₂
+      → c₂ < c₁
+
+-- What a verdict on two tables in weights may be: its kind is given, its pairs are limited.
+pub record IsVerdictInWeights (w₁ w₂ : Weights) (t₁ t₂ : Table) (v : Verdict) : Type 0 where
+  pub first : calls_first v ≡ never_dearer_lem (in_weights w₁ t₁) (in_weights w₂ t₂)
+  pub second : calls_second v ≡ never_dearer_lem (in_weights w₂ t₂) (in_weights w₁ t₁)
+  pub first-dearer : (p : Price) → FirstDearer v p → DearerInWeights w₁ w₂ t₁ t₂ p
+  pub second-dearer : (p : Price) → SecondDearer v p → DearerInWeights w₂ w₁ t₂ t₁ p

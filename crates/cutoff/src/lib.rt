@@ -10,13 +10,13 @@ ghost use Rattle.pooling.specs.Pool.{as_grade};
 ghost use Rattle.pooled_place.specs.Words.{HoldsPooledTable};
 ghost use Rattle.cutoff.specs.Cutoff.{cheapest_of};
 ghost use Rattle.cutoff.specs.Verdict.{never_dearer_lem, IsVerdict};
-ghost use Rattle.cutoff.specs.Sweep.{scale_in, Sweepable, in_weights, Light, Matched, most_pairs, counts_in, Few, FitsSigned};
+ghost use Rattle.cutoff.specs.Sweep.{scale_in, Sweepable, once, Light, Opposed, Comparable, most_pairs, counts_in, Few, FitsSigned};
 ghost use Rattle.cutoff.specs.Sweep.{ahead, behind, IsLead, accepted_in, SmallIn, Turned};
-ghost use Rattle.cutoff.specs.Sweep.{Finds, price_in, SmallPrice, dearer_at, verdict_of};
+ghost use Rattle.cutoff.specs.Sweep.{Finds, price_in, SmallPrice, SmallPrices, dearer_at, FindsPrices, verdict_of, IsVerdictInWeights};
 ghost use Rattle.cutoff.specs.Claims.{Claims};
 
 use pooled_place::listed_blocks;
-use pooling::{BLOCKS, Block, block_at};
+use pooling::{Block, Blocks};
 use table::{DEFAULTS, Survivors, grades_of, obligors_at};
 
 // The highest price that a call takes.
@@ -32,18 +32,17 @@ pub struct CheapestCutoff {
 // The cheapest cutoff of the table in a lent place, at price u of a missed default and v of a survivor turned away.
 // The loop goes from the worst grade to the best and keeps the cheapest cutoff of the grades passed: to accept one more grade costs
 // its defaults, to turn it away costs the survivors of all of them.
+#[tactic(auto, using(table::proofs::Words::few_in, table::proofs::Words::turn))]
 pub fn cheapest(place: &[u32], u: u32, v: u32) -> CheapestCutoff
     requires holds_table { HoldsTable place.now }
     requires prices { (u ≤ 1_000_000) × (v ≤ 1_000_000) }
     ensures { result ≡ cheapest_of (table_in place.now) u v }
 {
     let grades = grades_of(place);
-    let mut i = grades;
     let mut passed = Survivors(0);
     let mut cutoff: u32 = 0;
     let mut cost: u64 = 0;
-    while 0 < i {
-        i -= 1;
+    for i in (0..grades).rev() {
         let d = place[DEFAULTS + i];
         passed = passed.plus(obligors_at(place, i).survivors(d));
         let away = (v as u64) * (passed.0 as u64);
@@ -77,6 +76,14 @@ impl Price {
             v: b.defaults * other.survivors.0,
         }
     }
+
+    // Those of the block that was found, if one was.
+    pub fn at_break_even(found: Option<Block>, other: Weights) -> Option<Price>
+        requires { SmallPrice other found }
+        ensures { result ≡ dearer_at other found }
+    {
+        found.map(|b| Price::break_even(b, other))
+    }
 }
 
 // How often each default and each survivor of a scale counts.
@@ -85,12 +92,6 @@ pub struct Weights {
     pub defaults: u32,
     pub survivors: Survivors,
 }
-
-// Each counts once.
-const ONCE: Weights = Weights {
-    defaults: 1,
-    survivors: Survivors(1),
-};
 
 // What a block counts in a scale, its defaults and its survivors each times their weight. These and their sums are no `Survivors`: they count
 // pairs with the other scale's, and need 64 bits.
@@ -126,22 +127,29 @@ impl Counts {
     }
 }
 
+// A scale: its blocks, best first, and how often each default and each survivor of them counts.
+#[derive(Clone, Copy)]
+pub struct Scale<'a> {
+    pub blocks: &'a [Block],
+    pub weights: Weights,
+}
+
 // How far a cutoff of the second scale is ahead of one of the first: by so many defaults caught and survivors turned away, which are negative
-// where it is behind. The words of the second's blocks that it turns away start at `from`.
+// where it is behind. The second accepts so many of its blocks.
 #[derive(Clone, Copy)]
 struct Lead {
-    from: usize,
+    accepted: usize,
     defaults: i64,
     survivors: i64,
 }
 
 impl Lead {
     // No block of either scale is turned away.
-    fn none(blocks: &[u32]) -> Lead
-        ensures { result ≡ record { from = length blocks.now; defaults = pos 0; survivors = pos 0 } }
+    fn none(blocks: &[Block]) -> Lead
+        ensures { result ≡ record { accepted = length blocks.now; defaults = pos 0; survivors = pos 0 } }
     {
         Lead {
-            from: blocks.len(),
+            accepted: blocks.len(),
             defaults: 0,
             survivors: 0,
         }
@@ -149,13 +157,13 @@ impl Lead {
 
     // The second turns its next better block away, too.
     fn with(self, b: Counts) -> Lead
-        requires words { 3 ≤ self.from }
+        requires some { 1 ≤ self.accepted }
         requires few { Few b }
         requires small { FitsSigned (self.defaults +ℤ pos b.defaults) × FitsSigned (self.survivors +ℤ pos b.survivors) }
         ensures { result ≡ ahead self b }
     {
         Lead {
-            from: self.from - 3,
+            accepted: self.accepted - 1,
             defaults: self.defaults + (b.defaults as i64),
             survivors: self.survivors + (b.survivors as i64),
         }
@@ -168,22 +176,22 @@ impl Lead {
         ensures { result ≡ behind self at }
     {
         Lead {
-            from: self.from,
+            accepted: self.accepted,
             defaults: self.defaults - (at.defaults as i64),
             survivors: self.survivors - (at.survivors as i64),
         }
     }
 
     // The second's cheapest cutoff at a block's break-even prices, which turns away all that this one does.
-    fn turning_away(self, blocks: &[u32], weights: Weights, at: Counts) -> Lead
-        requires scale { Sweepable blocks.now × (Light weights × IsLead weights (scale_in blocks.now) self) }
-        requires fewer { 3 * accepted_in weights at (scale_in blocks.now) ≤ self.from }
-        requires small { SmallIn weights (scale_in blocks.now) at }
-        ensures { Turned weights at (scale_in blocks.now) self result }
+    fn turning_away(self, second: Scale<'_>, at: Counts) -> Lead
+        requires scale { Sweepable second.blocks.now × (Light second.weights × IsLead second.weights (scale_in second.blocks.now) self) }
+        requires fewer { accepted_in second.weights at (scale_in second.blocks.now) ≤ self.accepted }
+        requires small { SmallIn second.weights (scale_in second.blocks.now) at }
+        ensures { Turned second.entry.weights at (scale_in second.entry.blocks.now) self result }
     {
         let mut lead = self;
-        while 0 < lead.from {
-            let next = weights.counts(block_at(blocks, lead.from - 3));
+        for block in second.blocks[..self.accepted].iter().rev() {
+            let next = second.weights.counts(*block);
             if !at.turns_away(next) {
                 return lead;
             }
@@ -203,54 +211,47 @@ impl Lead {
     }
 }
 
-// What a search over the blocks of a scale finds: one of them, or nothing.
-#[derive(Clone, Copy)]
-pub enum Found {
-    One(Block),
-    Nothing,
-}
-
-// A block of the first scale at whose break-even prices the first costs more than the second, each in its weights. They are tried from the
-// worst block on: there it is cheapest to turn away the worse blocks of the first, and of the second those whose survivors cost no more than
-// their defaults. The prices of a better block turn more of them away.
-pub fn where_dearer(first: &[u32], weights1: Weights, second: &[u32], weights2: Weights) -> Found
-    requires scales { Sweepable first.now × Sweepable second.now }
-    requires light { Light weights1 × Light weights2 }
-    requires matched { Matched (in_weights weights1 (scale_in first.now)) (in_weights weights2 (scale_in second.now)) }
-    ensures { Finds weights1 weights2 (scale_in first.now) (scale_in second.now) result }
-{
-    let mut i = first.len();
-    let mut lead = Lead::none(second);
-    while 0 < i {
-        i -= 3;
-        let block = block_at(first, i);
-        let at = weights1.counts(block);
-        lead = lead.turning_away(second, weights2, at);
-        if lead.shows_dearer(at) {
-            return Found::One(block);
-        }
-        lead = lead.passed(at);
-    }
-    Found::Nothing
-}
-
-// Where one scale costs more than another: at these prices, or nowhere.
-#[derive(Clone, Copy)]
-pub enum Dearer {
-    At(Price),
-    Nowhere,
-}
-
-impl Found {
-    // At the break-even prices of the block that was found.
-    pub fn at_break_even(self, other: Weights) -> Dearer
-        requires { SmallPrice other self }
-        ensures { result ≡ dearer_at other self }
+impl<'a> Scale<'a> {
+    // Blocks of which each default and each survivor counts once.
+    fn once(blocks: &'a [Block]) -> Scale<'a>
+        ensures blocks { result.blocks.now ≡ blocks.now }
+        ensures weights { result.weights ≡ once }
     {
-        match self {
-            Found::One(b) => Dearer::At(Price::break_even(b, other)),
-            Found::Nothing => Dearer::Nowhere,
+        Scale {
+            blocks,
+            weights: Weights {
+                defaults: 1,
+                survivors: Survivors(1),
+            },
         }
+    }
+
+    // A block at whose break-even prices this scale costs more than another. They are tried from the worst block on: there it is cheapest to
+    // turn away the worse blocks of this scale, and of the other those whose survivors cost no more than their defaults. The prices of a better
+    // block turn more of them away.
+    pub fn where_dearer(self, other: Scale<'_>) -> Option<Block>
+        requires { Opposed self.weights other.weights self.blocks.now other.blocks.now }
+        ensures { Finds self.entry.weights other.entry.weights (scale_in self.entry.blocks.now) (scale_in other.entry.blocks.now) result }
+    {
+        let mut lead = Lead::none(other.blocks);
+        for block in self.blocks.iter().rev() {
+            let at = self.weights.counts(*block);
+            lead = lead.turning_away(other, at);
+            if lead.shows_dearer(at) {
+                return Some(*block);
+            }
+            lead = lead.passed(at);
+        }
+        None
+    }
+
+    // The break-even prices of such a block.
+    pub fn dearer_than(self, other: Scale<'_>) -> Option<Price>
+        requires opposed { Opposed self.weights other.weights self.blocks.now other.blocks.now }
+        requires small { SmallPrices other.weights (scale_in self.blocks.now) }
+        ensures { FindsPrices self.entry.weights other.entry.weights (scale_in self.entry.blocks.now) (scale_in other.entry.blocks.now) result }
+    {
+        Price::at_break_even(self.where_dearer(other), other.weights)
     }
 }
 
@@ -268,20 +269,28 @@ pub enum Verdict {
 
 impl Verdict {
     // Where the first costs more, and where the second does, make the verdict.
-    pub fn of(first: Dearer, second: Dearer) -> Verdict
+    pub fn of(first: Option<Price>, second: Option<Price>) -> Verdict
         ensures { result ≡ verdict_of first second }
     {
-        match first {
-            Dearer::Nowhere => match second {
-                Dearer::Nowhere => Verdict::Equal,
-                Dearer::At(q) => Verdict::First(q),
-            },
-            Dearer::At(p) => match second {
-                Dearer::Nowhere => Verdict::Second(p),
-                Dearer::At(q) => Verdict::Crossing(p, q),
-            },
+        match (first, second) {
+            (None, None) => Verdict::Equal,
+            (None, Some(q)) => Verdict::First(q),
+            (Some(p), None) => Verdict::Second(p),
+            (Some(p), Some(q)) => Verdict::Crossing(p, q),
         }
     }
+}
+
+// The verdict on two scales, each in its weights, which count all defaults of both the same, and all survivors. Inlined, so that weights of 1 cost
+// nothing.
+#[inline(always)]
+pub fn judge_scales(first: Scale<'_>, second: Scale<'_>) -> Verdict
+    requires { Comparable first.weights second.weights first.blocks.now second.blocks.now }
+    ensures { IsVerdictInWeights first.entry.weights second.entry.weights (scale_in first.entry.blocks.now) (scale_in second.entry.blocks.now) result }
+{
+    let first_dearer = first.dearer_than(second);
+    let second_dearer = second.dearer_than(first);
+    Verdict::of(first_dearer, second_dearer)
 }
 
 // The verdict on the tables in two lent places, by their pooled lists, of equally many defaults and equally many survivors.
@@ -291,31 +300,22 @@ pub fn judge(first: &[u32], second: &[u32]) -> Verdict
     requires survivors { survivors_in (table_in first.now) ≡ survivors_in (table_in second.now) }
     ensures { IsVerdict (table_in first.now) (table_in second.now) result }
 {
-    let mut ours = [0u32; BLOCKS];
-    let ours_from = listed_blocks(first, &mut ours);
-    let mut theirs = [0u32; BLOCKS];
-    let theirs_from = listed_blocks(second, &mut theirs);
-    let our_blocks = &ours[ours_from..];
-    let their_blocks = &theirs[theirs_from..];
-    let first_found = where_dearer(our_blocks, ONCE, their_blocks, ONCE);
-    let second_found = where_dearer(their_blocks, ONCE, our_blocks, ONCE);
-    let first_dearer = first_found.at_break_even(ONCE);
-    let second_dearer = second_found.at_break_even(ONCE);
-    Verdict::of(first_dearer, second_dearer)
+    let mut ours = Blocks::none();
+    listed_blocks(first, &mut ours);
+    let mut theirs = Blocks::none();
+    listed_blocks(second, &mut theirs);
+    judge_scales(Scale::once(ours.as_slice()), Scale::once(theirs.as_slice()))
 }
 
 // Whether a scale costs no more than another at any prices: the blocks of two tables of equally many defaults and equally many survivors.
-pub fn never_dearer(first: &[u32], second: &[u32]) -> bool
+pub fn never_dearer(first: &[Block], second: &[Block]) -> bool
     requires scales { Sweepable first.now × Sweepable second.now }
     requires defaults { defaults_in (scale_in first.now) ≡ defaults_in (scale_in second.now) }
     requires survivors { survivors_in (scale_in first.now) ≡ survivors_in (scale_in second.now) }
     ensures { result ≡ never_dearer_lem (scale_in first.now) (scale_in second.now) }
 {
-    let found = where_dearer(first, ONCE, second, ONCE);
-    match found {
-        Found::One(_block) => false,
-        Found::Nothing => true,
-    }
+    let found = Scale::once(first).where_dearer(Scale::once(second));
+    found.is_none()
 }
 
 // What is claimed of cutoffs: the function does nothing, its contract is all claims of this crate.

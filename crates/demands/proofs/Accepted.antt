@@ -1,7 +1,7 @@
 -- What accepted calls on a sound desk do: pool writes the monotone regression and repeats it for empty grades, measures has a mixed table, what
 -- write leaves is loaded again, and a book whose tables are loaded is written again.
 use Prim.Native.Nat.{ℕ, ◌-◌, ◌≤◌}
-use mathlib.Core.Path.{◌≡◌, refl, sym, ap, ◌∙◌}
+use mathlib.Core.Path.{◌≡◌, sym, ap, ◌∙◌}
 use mathlib.Core.List.{List, [], ◌++◌}
 use lib.ListN.{length, take, drop, get_or}
 use Rattle.table.specs.Table.{Every, Mixed, occupied}
@@ -12,7 +12,7 @@ use Rattle.book.specs.Bytes.{Byte}
 use Rattle.book.specs.Layout.{raters, start_of, kind_at, layout_fault}
 use Rattle.book.specs.Rows.{tables_in}
 use Rattle.book.specs.Encode.{book_size, encode}
-use Rattle.book.specs.Writing.{write_fault, length_or, buffer_or}
+use Rattle.book.specs.Writing.{write_fault, buffer_or}
 use Rattle.book.proofs.Checks.{held, held_first}
 use Rattle.book.proofs.Books.{length-encode}
 use Rattle.book.proofs.RoundTrip.{round_trip}
@@ -23,13 +23,12 @@ use Rattle.pooling.specs.Claims.{RepeatsNextBetter, RepeatsBest}
 use Rattle.pooling.proofs.LeastSquares.{pooled_regression}
 use Rattle.pooling.proofs.Repeating.{next_better, best-occupied}
 use Rattle.pooling.proofs.Written.{rates-written}
-use Rattle.calls.specs.Answers.{accepted}
+use Rattle.refusals.specs.Answers.{accepted}
 use Rattle.calls.specs.Calls.{measures, question_fault, pool, fill_fault}
 use Rattle.desk.specs.declared.Desk.{Desk}
 use Rattle.desk.specs.Desk.{table_at, SoundDesk}
 use Rattle.desk.proofs.Soundness.{table_sound}
 use Rattle.desk.specs.Calls.{ask, fill, write, number_of, lent_after, loaded_tables, Returns}
-use Rattle.desk_c.proofs.Answered.{accepted_is}
 use Rattle.demands.specs.History.{nothing, table, filled}
 
 -- Pool and measures.
@@ -57,14 +56,11 @@ measured_mixed d s i e =
 pub loads_back : (d : Desk) → SoundDesk d → (out : List ℕ) (n : ℕ) → Returns d (write out) (accepted n)
     → (j : ℕ) → 1 ≤ j → j ≤ length (loaded_tables d)
     → filled nothing (take n (lent_after d (write out))) j ≡ table (get_or (loaded_tables d) (j - 1) [])
-unfolding length_or
 loads_back d s out n w j from to =
-    let said = accepted_is (book_size (loaded_tables d)) (write_fault (loaded_tables d) (length out)) w in
-    let e = sym said.0 in
     let first = sound_loaded (sound_place s.first) in
     let second = sound_loaded (sound_place s.second) in
-    let r = round_trip d.first.place d.second.place first second out (book_size (loaded_tables d)) (rw e refl) j from to in
-    rw (said.1, r.0, r.1)
+    let r = round_trip d.first.place d.second.place first second out n (sym w) j from to in
+    rw (r.0, r.1)
 
 pub writes_back : (b : List ℕ) → Every Byte b → layout_fault b ≡ 0 → ((j : ℕ) → 1 ≤ j → j ≤ raters b → kind_at b (start_of b j) ≡ 0)
     → (d : Desk) → loaded_tables d ≡ tables_in b 1 (raters b) → (out : List ℕ) → write_fault (loaded_tables d) (length out) ≡ 0

@@ -1,11 +1,10 @@
 -- Every call of the model has its entry points: what the contracts of the library for C and of the desk say is what the model says.
-use Prim.Native.Nat.{ℕ, zero, suc}
-use mathlib.Core.Path.{◌≡◌, refl, sym, ap, ◌∙◌}
-use Rattle.calls.specs.Answers.{Answer, accepted, refused, answer, Limited, compare_says, spread_says}
+use mathlib.Core.Path.{refl}
+use Rattle.refusals.proofs.Refused.{number_given, number_limited}
 use Rattle.calls.specs.Calls.{cheapest, measures, brier, spread, pool, load, clear, event}
 use Rattle.events.specs.declared.Event.TheVariants.{SurvivorEnters, SurvivorLeaves, SurvivorDefaults, DefaultedRemoved}
 use Rattle.desk.specs.Calls.{Call, ask, compare, compare_on_shares, fill, write, shortlist, change}
-use Rattle.demands.specs.EntryPoints.{ServedInC, number_in, ServedByDesk}
+use Rattle.demands.specs.EntryPoints.{ServedInC, ServedByDesk}
 use Rattle.demands.specs.Demands.{EveryCallIsServed}
 
 in_c : (c : Call) → ServedInC c
@@ -25,34 +24,19 @@ in_c (change i (event SurvivorLeaves g)) = λ κs a n s p e f. rw (← e, ← f)
 in_c (change i (event SurvivorDefaults g)) = λ κs a n s p e f. rw (← e, ← f) (record { number = p.0; desk = p.1; buffer = refl })
 in_c (change i (event DefaultedRemoved g)) = λ κs a n s p e f. rw (← e, ← f) (record { number = p.0; desk = p.1; buffer = refl })
 
--- the number in an answer that is given, and in one that is limited
-given : {A : Type 0} (n : ℕ) (x : A) → number_in (answer n x) ≡ n
-given zero x = refl
-given (suc n) x = refl
-
-in_given : {A : Type 0} {r : Answer A} (n : ℕ) (x : A) → r ≡ answer n x → number_in r ≡ n
-in_given n x e = ap number_in e ∙ given n x
-
-in_limited : {A : Type 0} (n : ℕ) (P : A → Type 0) (r : Answer A) → Limited n P r → number_in r ≡ n
-in_limited n P (accepted x) l = sym l.0
-in_limited n P (refused m) l = sym l.0
-
 by_desk : (c : Call) → ServedByDesk c
-by_desk (ask i (cheapest u v)) = λ κs a r s p e f g. rw (← e, ← f, ← g) (record { number = in_given _ _ p.1; desk = p.0; buffer = refl })
-by_desk (ask i measures) = λ κs a r s p e. rw (← e) (record { number = in_given _ _ p.1; desk = p.0; buffer = refl })
-by_desk (ask i brier) = λ κs a r s p e. rw (← e) (record { number = in_given _ _ p.1; desk = p.0; buffer = refl })
-by_desk (ask i spread) = λ κs a r s p e. rw (← e) (record { number = in_limited _ _ (spread_says r) p.1; desk = p.0; buffer = refl })
-by_desk compare = λ κs a r s p. record { number = in_limited _ _ (compare_says r) p.1; desk = p.0; buffer = refl }
-by_desk compare_on_shares = λ κs a r s p. record { number = in_limited _ _ (compare_says r) p.1; desk = p.0; buffer = refl }
-by_desk (fill i pool out) = λ κs a r s p e f. rw (← e, ← f) (record { number = in_given _ _ p.1.1; desk = p.0; buffer = p.1.0 })
-by_desk (write out) = λ κs a r s p e. rw (← e) (record { number = in_given _ _ p.1.1; desk = p.0; buffer = p.1.0 }, p.1.1)
-by_desk (shortlist b out) = λ κs a r s p e f. rw (← e, ← f) (record { number = in_given _ _ p.1.1; desk = p.0; buffer = p.1.0 }, p.1.1)
-by_desk (change i (load b j)) = λ κs a r s p e f g. rw (← e, ← f, ← g) (record { number = in_given _ _ p.1; desk = p.0; buffer = refl })
-by_desk (change i clear) = λ κs a r s p e. rw (← e) (record { number = in_given _ _ p.1; desk = p.0; buffer = refl })
-by_desk (change i (event SurvivorEnters g)) = λ κs a r s p e f. rw (← e, ← f) (record { number = in_given _ _ p.1; desk = p.0; buffer = refl })
-by_desk (change i (event SurvivorLeaves g)) = λ κs a r s p e f. rw (← e, ← f) (record { number = in_given _ _ p.1; desk = p.0; buffer = refl })
-by_desk (change i (event SurvivorDefaults g)) = λ κs a r s p e f. rw (← e, ← f) (record { number = in_given _ _ p.1; desk = p.0; buffer = refl })
-by_desk (change i (event DefaultedRemoved g)) = λ κs a r s p e f. rw (← e, ← f) (record { number = in_given _ _ p.1; desk = p.0; buffer = refl })
+by_desk (ask i (cheapest u v)) = λ κs a r s p e f g. rw (← e, ← f, ← g) (record { number = number_given r _ _ p.1; desk = p.0; buffer = refl })
+by_desk (ask i measures) = λ κs a r s p e. rw (← e) (record { number = number_given r _ _ p.1; desk = p.0; buffer = refl })
+by_desk (ask i brier) = λ κs a r s p e. rw (← e) (record { number = number_given r _ _ p.1; desk = p.0; buffer = refl })
+by_desk (ask i spread) = λ κs a r s p e. rw (← e) (record { number = number_limited r _ _ p.1; desk = p.0; buffer = refl })
+by_desk compare = λ κs a r s p. record { number = number_limited r _ _ p.1; desk = p.0; buffer = refl }
+by_desk compare_on_shares = λ κs a r s p. record { number = number_limited r _ _ p.1; desk = p.0; buffer = refl }
+by_desk (fill i pool out) = λ κs a r s p e f. rw (← e, ← f) (record { number = p.1.1; desk = p.0; buffer = p.1.0 })
+by_desk (write out) = λ κs a r s p e. rw (← e) (record { number = number_given r _ _ p.1.1; desk = p.0; buffer = p.1.0 }, p.1.1)
+by_desk (shortlist b out) = λ κs a r s p e f. rw (← e, ← f) (record { number = number_given r _ _ p.1.1; desk = p.0; buffer = p.1.0 }, p.1.1)
+by_desk (change i (load b j)) = λ κs a r s p e f g. rw (← e, ← f, ← g) (record { number = p.1; desk = p.0; buffer = refl })
+by_desk (change i clear) = λ κs a r s p e. rw (← e) (record { number = p.1; desk = p.0; buffer = refl })
+by_desk (change i (event k g)) = λ κs a r s p e f h. rw (← e, ← f, ← h) (record { number = p.1; desk = p.0; buffer = refl })
 
 pub served : EveryCallIsServed
 served c = (in_c c, by_desk c)

@@ -143,13 +143,22 @@ known_fill : (p : Place) (f : Filling) (n : ℕ) → Known (1 ∷ fill_numbers f
 unfolding fill_fault among all_pass
 known_fill p pool n = known_then (13 ∷ []) p (at_most (fill_size (table_of p) pool) n 13 ∷ []) tt
 
--- 36, and then the checks of the event
+-- 22, 36, and then the checks of the event
 known_event : (p : Place) (e : Event) (g : ℕ) → Known (1 ∷ event_numbers e) (first_fault (empty_fault p) (event_fault e g (table_of p)))
 unfolding event_fault among all_pass
-known_event p SurvivorEnters g = let ns : List ℕ = 36 ∷ 38 ∷ [] in known_first (1 ∷ 22 ∷ ns) _ _ (known_empty ns p) (known_first (1 ∷ 22 ∷ ns) _ _ (known_fault (1 ∷ 22 ∷ ns) _ tt) (known_fault (1 ∷ 22 ∷ ns) _ tt))
-known_event p SurvivorLeaves g = let ns : List ℕ = 36 ∷ 37 ∷ [] in known_first (1 ∷ 22 ∷ ns) _ _ (known_empty ns p) (known_first (1 ∷ 22 ∷ ns) _ _ (known_fault (1 ∷ 22 ∷ ns) _ tt) (known_fault (1 ∷ 22 ∷ ns) _ tt))
-known_event p SurvivorDefaults g = let ns : List ℕ = 36 ∷ 37 ∷ [] in known_first (1 ∷ 22 ∷ ns) _ _ (known_empty ns p) (known_first (1 ∷ 22 ∷ ns) _ _ (known_fault (1 ∷ 22 ∷ ns) _ tt) (known_fault (1 ∷ 22 ∷ ns) _ tt))
-known_event p DefaultedRemoved g = let ns : List ℕ = 36 ∷ 37 ∷ [] in known_first (1 ∷ 22 ∷ ns) _ _ (known_empty ns p) (known_first (1 ∷ 22 ∷ ns) _ _ (known_fault (1 ∷ 22 ∷ ns) _ tt) (known_fault (1 ∷ 22 ∷ ns) _ tt))
+known_event p e g = cases e
+  where
+    booked : (ns : List ℕ) (l m : List Check) → T (all_pass (is_known (1 ∷ 22 ∷ ns)) l) → T (all_pass (is_known (1 ∷ 22 ∷ ns)) m)
+        → Known (1 ∷ 22 ∷ ns) (first_fault (empty_fault p) (first_fault (fault l) (fault m)))
+    booked ns l m h k =
+        let all : List ℕ = 1 ∷ 22 ∷ ns in
+        known_first all _ _ (known_empty ns p) (known_first all _ _ (known_fault all l h) (known_fault all m k))
+
+    cases : (e : Event) → Known (1 ∷ event_numbers e) (first_fault (empty_fault p) (event_fault e g (table_of p)))
+    cases SurvivorEnters = booked (36 ∷ 38 ∷ []) _ _ tt tt
+    cases SurvivorLeaves = booked (36 ∷ 37 ∷ []) _ _ tt tt
+    cases SurvivorDefaults = booked (36 ∷ 37 ∷ []) _ _ tt tt
+    cases DefaultedRemoved = booked (36 ∷ 37 ∷ []) _ _ tt tt
 
 known_change : (p : Place) (c : Change) → Known (1 ∷ change_numbers c) (change_fault p c)
 unfolding change_fault among

@@ -17,7 +17,7 @@ use Rattle.events.proofs.Tables.{event_sound}
 use Rattle.book.specs.Checks.{fault, first_fault}
 use Rattle.book.specs.Rows.{table_of_rater}
 use Rattle.book.specs.Reading.{read_fault}
-use Rattle.calls.specs.Answers.{leaves}
+use Rattle.refusals.specs.Answers.{leaves}
 use Rattle.calls.specs.Calls.{Change, load, clear, event, change_fault}
 use Rattle.calls.proofs.Leaves.{by-fault, leaves_map}
 use Rattle.desk.specs.declared.Desk.{Desk}

@@ -19,7 +19,7 @@ use Rattle.shortlist.specs.Checks as listing
 use Rattle.shortlist.specs.Checks.{shortlist_fault}
 use Rattle.shortlist.proofs.Books.{not_refused, comparable, book_some}
 use Rattle.shortlist.proofs.Ended.{buffer_kept}
-use Rattle.calls.specs.Answers.{leaves}
+use Rattle.refusals.specs.Answers.{leaves}
 use Rattle.calls.specs.Calls.{Filling, pool, fill_size, filled_with, fill_fault}
 use Rattle.calls.proofs.Leaves.{by-fault}
 use Rattle.desk.specs.declared.Desk.{Desk}

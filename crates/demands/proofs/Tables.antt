@@ -36,7 +36,7 @@ use Rattle.shortlist.specs.Shortlist as shortlist
 use Rattle.shortlist.specs.Shortlist.{unbeaten, listed}
 use Rattle.shortlist.specs.Checks as listing
 use Rattle.shortlist.specs.Checks.{some_checks, equal_checks, same_checks, totals_fault_lem, shortlist_fault}
-use Rattle.calls.specs.Answers.{Answer, accepted, refused, Limited}
+use Rattle.refusals.specs.Answers.{Answer, accepted, refused, Limited}
 use Rattle.calls.specs.Calls.{load, clear, change_fault, compare_fault, pair_checks}
 use Rattle.events.specs.declared.Event.TheVariants.{SurvivorEnters, SurvivorDefaults}
 use Rattle.events.specs.Events.{table_after, event_fault}

@@ -24,7 +24,7 @@ use Rattle.shares.specs.Claims as shares
 use Rattle.measures.specs.Claims as measuring
 use Rattle.shortlist.specs.Shortlist.{Better}
 use Rattle.shortlist.specs.Claims.{Rater, Has, InBookOrder}
-use Rattle.calls.specs.Answers.{Answer, accepted, refused}
+use Rattle.refusals.specs.Answers.{Answer, accepted, refused}
 use Rattle.calls.specs.Calls.{Question, measures, pool, load}
 use Rattle.desk.specs.declared.Desk.{Desk}
 use Rattle.desk.specs.Desk.{place_at, table_at, SoundDesk}

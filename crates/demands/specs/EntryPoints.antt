@@ -5,11 +5,11 @@ use Rattle.std.specs.Prelude.{◌≡◌, List, [], ℕ}
 use contract.Lifetimes.{Lfts}
 use denote.Triple.Entry.{Args, Res}
 use denote.Triple.Clauses.{Ended, AtExit}
-use Rattle.calls.specs.Answers.{Answer, accepted, refused, leaves, cheapest_says, compare_says, measures_says, brier_says, spread_says}
+use Rattle.refusals.specs.Numbers.{number_in}
+use Rattle.refusals.specs.Answers.{leaves, says}
 use Rattle.calls.specs.Calls.{cheapest, measures, brier, spread, pool, load, clear, event}
 use Rattle.events.specs.declared.Event.TheVariants.{SurvivorEnters, SurvivorLeaves, SurvivorDefaults, DefaultedRemoved}
 use Rattle.desk.specs.Desk.{fresh_desk}
-use Rattle.desk.specs.Answers.{ack_says, written_says, shortlisted_says}
 use Rattle.desk.specs.declared.Desk.{Desk}
 use Rattle.desk.specs.Calls.{Call, ask, compare, compare_on_shares, fill, write, shortlist, change, number_of, after, lent_after, lent_size, Returns}
 use Rattle.desk_c.specs.Image.{image_of, desk_in}
@@ -86,56 +86,39 @@ ServedInC (change i (event DefaultedRemoved g)) =
     Promises in_c.desk_defaulted_removed
     (λ κs a n s. a.1.0 ≡ i → a.1.1.0 ≡ g → ServesImage a.0.now (change i (event DefaultedRemoved g)) n s.0.now [])
 
--- The desk, whose methods take it by value and hand it back only where they change it.
-
--- the number in an answer: 0, or that of the refusal
-abbrev pub number_in : {A : Type 0} → Answer A → ℕ
-number_in (accepted x) = 0
-number_in (refused n) = n
+-- The desk, whose methods only look at it, or change it where it stands.
 
 abbrev pub ServedByDesk : Call → Type 0
 ServedByDesk (ask i (cheapest u v)) =
     Promises by_desk.cheapest
-    (λ κs a r s. a.1.0 ≡ i → a.1.1.0 ≡ u → a.1.1.1.0 ≡ v → Serves a.0 (ask i (cheapest u v)) (number_in (cheapest_says r)) a.0 [])
+    (λ κs a r s. a.1.0 ≡ i → a.1.1.0 ≡ u → a.1.1.1.0 ≡ v → Serves a.0.now (ask i (cheapest u v)) (number_in r) a.0.now [])
 ServedByDesk (ask i measures) =
-    Promises by_desk.measures
-    (λ κs a r s. a.1.0 ≡ i → Serves a.0 (ask i measures) (number_in (measures_says r)) a.0 [])
+    Promises by_desk.measures (λ κs a r s. a.1.0 ≡ i → Serves a.0.now (ask i measures) (number_in r) a.0.now [])
 ServedByDesk (ask i brier) =
-    Promises by_desk.brier (λ κs a r s. a.1.0 ≡ i → Serves a.0 (ask i brier) (number_in (brier_says r)) a.0 [])
+    Promises by_desk.brier (λ κs a r s. a.1.0 ≡ i → Serves a.0.now (ask i brier) (number_in r) a.0.now [])
 ServedByDesk (ask i spread) =
-    Promises by_desk.spread (λ κs a r s. a.1.0 ≡ i → Serves a.0 (ask i spread) (number_in (spread_says r)) a.0 [])
-ServedByDesk compare =
-    Promises by_desk.compare (λ κs a r s. Serves a.0 compare (number_in (compare_says r)) a.0 [])
+    Promises by_desk.spread (λ κs a r s. a.1.0 ≡ i → Serves a.0.now (ask i spread) (number_in r) a.0.now [])
+ServedByDesk compare = Promises by_desk.compare (λ κs a r s. Serves a.0.now compare (number_in r) a.0.now [])
 ServedByDesk compare_on_shares =
-    Promises by_desk.compare_shares (λ κs a r s. Serves a.0 compare_on_shares (number_in (compare_says r)) a.0 [])
+    Promises by_desk.compare_shares (λ κs a r s. Serves a.0.now compare_on_shares (number_in r) a.0.now [])
 ServedByDesk (fill i pool out) =
     Promises by_desk.pool
-    (λ κs a r s. a.1.0 ≡ i → a.1.1.0.now ≡ out → Serves a.0 (fill i pool out) (number_in (ack_says r)) a.0 s.1.1.0.now)
+    (λ κs a r s. a.1.0 ≡ i → a.1.1.0.now ≡ out → Serves a.0.now (fill i pool out) (number_in r) a.0.now s.1.1.0.now)
 ServedByDesk (write out) =
     Promises by_desk.write
     (λ κs a r s. a.1.0.now ≡ out
-    → Serves a.0 (write out) (number_in (written_says r)) a.0 s.1.0.now × Returns a.0 (write out) (written_says r))
+    → Serves a.0.now (write out) (number_in r) a.0.now s.1.0.now × Returns a.0.now (write out) (says r))
 ServedByDesk (shortlist book out) =
     Promises by_desk.shortlist
     (λ κs a r s. a.0.now ≡ book → a.1.0.now ≡ out
-    → Serves fresh_desk (shortlist book out) (number_in (shortlisted_says r)) fresh_desk s.1.0.now
-    × Returns fresh_desk (shortlist book out) (shortlisted_says r))
+    → Serves fresh_desk (shortlist book out) (number_in r) fresh_desk s.1.0.now
+    × Returns fresh_desk (shortlist book out) (says r))
 ServedByDesk (change i (load book rater)) =
     Promises by_desk.load
     (λ κs a r s. a.1.0 ≡ i → a.1.1.0.now ≡ book → a.1.1.1.0 ≡ rater
-    → Serves a.0 (change i (load book rater)) (number_in (ack_says r.ack)) r.desk [])
+    → Serves a.0.now (change i (load book rater)) (number_in r) s.0.now [])
 ServedByDesk (change i clear) =
-    Promises by_desk.clear
-    (λ κs a r s. a.1.0 ≡ i → Serves a.0 (change i clear) (number_in (ack_says r.ack)) r.desk [])
-ServedByDesk (change i (event SurvivorEnters g)) =
-    Promises by_desk.survivor_enters
-    (λ κs a r s. a.1.0 ≡ i → a.1.1.0 ≡ g → Serves a.0 (change i (event SurvivorEnters g)) (number_in (ack_says r.ack)) r.desk [])
-ServedByDesk (change i (event SurvivorLeaves g)) =
-    Promises by_desk.survivor_leaves
-    (λ κs a r s. a.1.0 ≡ i → a.1.1.0 ≡ g → Serves a.0 (change i (event SurvivorLeaves g)) (number_in (ack_says r.ack)) r.desk [])
-ServedByDesk (change i (event SurvivorDefaults g)) =
-    Promises by_desk.survivor_defaults
-    (λ κs a r s. a.1.0 ≡ i → a.1.1.0 ≡ g → Serves a.0 (change i (event SurvivorDefaults g)) (number_in (ack_says r.ack)) r.desk [])
-ServedByDesk (change i (event DefaultedRemoved g)) =
-    Promises by_desk.defaulted_removed
-    (λ κs a r s. a.1.0 ≡ i → a.1.1.0 ≡ g → Serves a.0 (change i (event DefaultedRemoved g)) (number_in (ack_says r.ack)) r.desk [])
+    Promises by_desk.clear (λ κs a r s. a.1.0 ≡ i → Serves a.0.now (change i clear) (number_in r) s.0.now [])
+ServedByDesk (change i (event e g)) =
+    Promises by_desk.book_event
+    (λ κs a r s. a.1.0 ≡ i → a.1.1.0 ≡ e → a.1.1.1.0 ≡ g → Serves a.0.now (change i (event e g)) (number_in r) s.0.now [])

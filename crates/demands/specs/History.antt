@@ -8,7 +8,7 @@ use Rattle.events.specs.declared.Event.TheVariants.{SurvivorEnters, SurvivorLeav
 use Rattle.events.specs.Events.{table_after, event_fault}
 use Rattle.book.specs.Rows.{table_of_rater}
 use Rattle.book.specs.Reading.{read_fault}
-use Rattle.calls.specs.Answers.{leaves}
+use Rattle.refusals.specs.Answers.{leaves}
 use Rattle.calls.specs.Calls.{Question, cheapest, measures, brier, spread, Filling, pool, Change, load, clear, event}
 use Rattle.desk.specs.declared.Desk.{Desk}
 use Rattle.desk.specs.Desk.{fresh_desk}

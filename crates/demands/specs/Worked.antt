@@ -23,7 +23,7 @@ use Rattle.measures.specs.Measures.{height, measures_of}
 use Rattle.shortlist.specs.Shortlist.{listed}
 use Rattle.shortlist.specs.Checks as listing
 use Rattle.shortlist.specs.Checks.{totals_fault_lem, shortlist_fault}
-use Rattle.calls.specs.Answers.{Answer, accepted}
+use Rattle.refusals.specs.Answers.{Answer, accepted}
 use Rattle.calls.specs.Calls.{load, clear, event, compare_fault, Compared}
 use Rattle.calls.specs.Shares.{shares_fault, ComparedByShares}
 use Rattle.desk.specs.Calls.{Call, change, number_of}

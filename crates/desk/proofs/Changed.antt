@@ -1,5 +1,5 @@
 -- A change of a place of the desk, by its words. Load and clear look at the mark of the place alone, and are made on an empty place with that mark.
-use Prim.Native.Nat.{ℕ, zero, suc}
+use Prim.Native.Nat.{ℕ}
 use mathlib.Core.Path.{◌≡◌, refl, sym, ap, ◌∙◌}
 use mathlib.Core.Bool.{Bool, true, false}
 use mathlib.Core.List.{List}
@@ -12,7 +12,7 @@ use Rattle.pooled_place.specs.declared.PooledPlace.{PooledPlace}
 use Rattle.pooled_place.specs.PooledPlace.{marked_pooled_place, SoundPooledPlace}
 use Rattle.pooled_place.specs.Words.{pooled_place_size, pooled_place_words, pooled_place_in}
 use Rattle.pooled_place.proofs.Words.{pooled_place_back}
-use Rattle.calls.specs.Answers.{leaves}
+use Rattle.refusals.specs.Answers.{leaves}
 use Rattle.calls.specs.Calls.{Change, load, clear, changed_to, change_fault}
 use Rattle.calls.specs.Private.{Fillable}
 use Rattle.desk.specs.declared.Desk.{Desk}
@@ -47,21 +47,16 @@ pub clear_marked : {w : List ℕ} (p : Place) → w ≡ pooled_place_words (mark
 unfolding change_fault
 clear_marked p e = ap (λ (x : Place). change_fault x clear) (place_marked p.loaded e)
 
--- The desk after the change, as it is handed back: n is the fault, v the words after it.
-module _ (d : Desk) (i : ℕ) (c : Change) (here : place_fault i ≡ 0) (w : List ℕ) (same : change_fault (place_in w) c ≡ change_fault (place_at d i) c) where
+-- The change of a place there is: n is its fault, or where there is none v are the words after it.
+module _ (d : Desk) (i : ℕ) (c : Change) (here : 0 ≡ place_fault i) (w : List ℕ) (same : change_fault (place_in w) c ≡ change_fault (place_at d i) c) where
   pub change_number : {n : ℕ} → n ≡ change_fault (place_in w) c → n ≡ number_of d (change i c)
-  change_number e = e ∙ same ∙ sym (first_none (place_fault i) _ here)
+  change_number e = e ∙ same ∙ sym (first_none (place_fault i) _ (sym here))
 
-  module _ (sound : change_fault (place_at d i) c ≡ 0 → SoundPooledPlace (changed_to (table_at d i) c)) where
-    put : (n : ℕ) → n ≡ change_fault (place_in w) c
-        → leaves n d (with_place_lem d i (pooled_place_in (leaves n w (pooled_place_words (changed_to (table_at d i) c))))) ≡ leaves n d (with_place_lem d i (changed_to (table_at d i) c))
-    put zero e = ap (λ (p : PooledPlace). with_place_lem d i p) (pooled_place_back (sound (sym same ∙ sym e)))
-    put (suc n) e = refl
-
-    pub change_desk : {n : ℕ} {v : List ℕ} {left : Desk} → n ≡ change_fault (place_in w) c → v ≡ leaves n w (pooled_place_words (changed_to (table_at d i) c))
-        → left ≡ leaves n d (with_place_lem d i (pooled_place_in v)) → left ≡ after d (change i c)
-    change_desk {n} e f g =
-        g
-        ∙ ap (λ (x : List ℕ). leaves n d (with_place_lem d i (pooled_place_in x))) f
-        ∙ put n e
-        ∙ ap (λ (m : ℕ). leaves m d (with_place_lem d i (changed_to (table_at d i) c))) (change_number e)
+  pub change_desk : {v : List ℕ} {left : Desk} → (change_fault (place_at d i) c ≡ 0 → SoundPooledPlace (changed_to (table_at d i) c))
+      → 0 ≡ change_fault (place_in w) c → v ≡ pooled_place_words (changed_to (table_at d i) c) → left ≡ with_place_lem d i (pooled_place_in v)
+      → left ≡ after d (change i c)
+  change_desk sound e f g =
+      g
+      ∙ ap (λ (x : List ℕ). with_place_lem d i (pooled_place_in x)) f
+      ∙ ap (λ (p : PooledPlace). with_place_lem d i p) (pooled_place_back (sound (sym same ∙ sym e)))
+      ∙ ap (λ (m : ℕ). leaves m d (with_place_lem d i (changed_to (table_at d i) c))) (change_number e)

@@ -14,7 +14,7 @@ use Rattle.spread.specs.declared.Spread.{Spread}
 use Rattle.shortlist.specs.Shortlist.{listed}
 use Rattle.shortlist.specs.Checks as listing
 use Rattle.shortlist.specs.Checks.{shortlist_fault}
-use Rattle.calls.specs.Answers.{Answer, answer, leaves, Limited}
+use Rattle.refusals.specs.Answers.{Answer, answer, leaves, Limited}
 use Rattle.calls.specs.Calls.{Question, spread, question_fault, Filling, fill_size, filled_with, fill_fault, Change, changed_to, change_fault, compare_fault}
 use Rattle.calls.specs.Shares.{shares_fault}
 use Rattle.desk.specs.declared.Desk.{Desk}

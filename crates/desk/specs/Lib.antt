@@ -1,3 +1,2 @@
 pub mod Desk
-pub mod Answers
 pub mod Calls

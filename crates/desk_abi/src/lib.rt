@@ -7,7 +7,7 @@ ghost use Rattle.cutoff.specs.Cutoff.{cheapest_of};
 ghost use Rattle.measures.specs.Measures.{measures_of};
 ghost use Rattle.measures.specs.Brier.{brier_of};
 ghost use Rattle.spread.specs.Spread.{IsSpread};
-ghost use Rattle.calls.specs.Answers.{leaves};
+ghost use Rattle.refusals.specs.Answers.{leaves};
 ghost use Rattle.calls.specs.Calls.{cheapest, measures, brier, spread, pool, load, clear, event};
 ghost use Rattle.desk.specs.Desk.{fresh_desk};
 ghost use Rattle.desk.specs.Calls.{ask, compare, compare_on_shares, fill, write, shortlist, change};

@@ -16,7 +16,11 @@ use Rattle.desk.specs.declared.Desk.{Desk}
 use Rattle.desk.specs.Desk.{pooled_place_at, place_at, with_place_lem, SoundDesk}
 use Rattle.desk.proofs.Soundness.{pooled_place_sound}
 use Rattle.desk_c.specs.Image.{image_of, words_from, counts_from, desk_in, IsImage}
-use Rattle.desk_c.specs.Private.{desk_size, start_of, with_words}
+use Rattle.desk_c.specs.Private.{desk_size, start_of}
+
+-- an image in which the words from `at` on are those of p
+abbrev pub with_words : List ℕ → ℕ → PooledPlace → List ℕ
+with_words w at p = paste w at (pooled_place_words p) 242
 
 -- Two lists of 242 numbers, one behind the other.
 module _ (u v : List ℕ) (m : length u ≡ 242) (n : length v ≡ 242) where

@@ -1,6 +1,5 @@
 pub mod Images
 pub mod Parts
-pub mod Changed
-pub mod Answered
 pub mod Asked
+pub mod Changed
 pub mod Signed

@@ -6,7 +6,7 @@ use Rattle.cutoff.specs.declared.Verdict.TheVariants.{Equal, First, Second, Cros
 use Rattle.cutoff.specs.Verdict.{IsVerdict}
 use Rattle.shares.specs.Verdict.{IsVerdictByShares}
 use Rattle.measures.specs.declared.Measures.{Measures}
-use Rattle.measures.specs.declared.UnsignedFraction.{UnsignedFraction}
+use Rattle.measures.specs.declared.Fraction.{Fraction}
 use Rattle.spread.specs.declared.Spread.{Spread}
 use Rattle.desk_c.specs.Image.{table_on}
 
@@ -49,7 +49,7 @@ measures_numbers m =
     ∷ pos m.cutoff
     ∷ []
 
-abbrev pub fraction_numbers : UnsignedFraction → List ℤ
+abbrev pub fraction_numbers : Fraction ℕ → List ℤ
 fraction_numbers f = pos f.numerator ∷ pos f.denominator ∷ []
 
 abbrev pub spread_numbers : Spread → List Float

@@ -1,27 +1,38 @@
-// The image of a desk: where the words of its places stand, and the calls that change them there.
-ghost use Rattle.std.specs.Prelude.{◌+◌, ◌≤◌, ◌≡◌, length};
-ghost use Rattle.table.specs.Words.{place_in, table_in};
-ghost use Rattle.pooled_place.specs.Words.{pooled_place_size, IsPooledPlace};
-ghost use Rattle.calls.specs.Answers.{leaves};
-ghost use Rattle.calls.specs.Calls.{change_fault, changed_to, load, clear, event};
-ghost use Rattle.calls.specs.Private.{Fillable};
-ghost use Rattle.desk.specs.Calls.{place_fault};
-ghost use Rattle.desk_c.specs.Image.{words_from, counts_from};
-ghost use Rattle.desk_c.specs.Private.{desk_size, start_of, with_words};
+// The image of a desk: where the words of its places stand, and the calls that ask or change one of them there.
+ghost use Rattle.std.specs.Prelude.{◌+◌, ◌≤◌, ◌≡◌, length, IfOk};
+ghost use Rattle.cutoff.specs.Cutoff.{cheapest_of};
+ghost use Rattle.measures.specs.Measures.{measures_of};
+ghost use Rattle.measures.specs.Brier.{brier_of};
+ghost use Rattle.pooled_place.specs.Words.{pooled_place_size};
+ghost use Rattle.refusals.specs.Numbers.{number_in};
+ghost use Rattle.refusals.specs.Answers.{answer, leaves, says};
+ghost use Rattle.calls.specs.Calls.{cheapest, measures, brier, pool, spread, load, clear, event};
+ghost use Rattle.desk.specs.Calls.{place_fault, ask, fill, change, number_of, after, lent_after, Spreads};
+ghost use Rattle.desk_c.specs.Image.{image_of, desk_in, table_on, words_from, counts_from, IsImage};
+ghost use Rattle.desk_c.specs.Private.{desk_size, start_of};
 
+use cutoff::CheapestCutoff;
 use events::Event;
+use measures::{Measures, UnsignedFraction};
 use pooled_place::POOLED_PLACE;
-use table::{PLACE, wide};
+use refusals::Refusal;
+use spread::Spread;
+use table::PLACE;
 
 // How many numbers a desk takes.
 pub const DESK: usize = 484;
 
 // Where the words of place 1 or 2 start.
-pub fn start_of(place: u32) -> usize
-    requires { place_fault place ≡ 0 }
-    ensures { (result ≡ start_of place) × (result + pooled_place_size ≤ desk_size) }
+#[tactic(auto, using(std::proofs::lemmas::Bool::Decides::nat_tests), unfolding(book::specs::Checks::fault))]
+fn start_of(place: u32) -> Result<usize, Refusal>
+    ensures number { number_in result ≡ place_fault place }
+    ensures start { IfOk result (λ at. (at ≡ start_of place) × (at + pooled_place_size ≤ desk_size)) }
 {
-    wide(place - 1) * POOLED_PLACE
+    match place {
+        1 => Ok(0),
+        2 => Ok(POOLED_PLACE),
+        _ => Err(Refusal::NoPlace),
+    }
 }
 
 // The words of the place that start at `at`.
@@ -29,8 +40,7 @@ pub fn words_at(desk: &[u32], at: usize) -> &[u32]
     requires { at + pooled_place_size ≤ length desk.now }
     ensures { result.now ≡ words_from desk.now at }
 {
-    let end = at + POOLED_PLACE;
-    &desk[at..end]
+    &desk[at..at + POOLED_PLACE]
 }
 
 // The words of its counts.
@@ -38,36 +48,86 @@ pub fn counts_at(desk: &[u32], at: usize) -> &[u32]
     requires { at + pooled_place_size ≤ length desk.now }
     ensures { result.now ≡ counts_from desk.now at }
 {
-    let end = at + PLACE;
-    &desk[at..end]
+    &desk[at..at + PLACE]
 }
 
-// Load, into the place that starts at `at`.
-pub fn load_at(desk: &mut [u32], at: usize, book: &[u8], rater: u32) -> u32
-    requires { (at + pooled_place_size ≤ length desk.old) × Fillable (words_from desk.old at) }
-    ensures value { result ≡ change_fault (place_in (words_from desk.old at)) (load book.now rater) }
-    ensures desk_after { let w = desk.old in desk.new ≡ leaves result w (with_words w at (changed_to (table_in (words_from w at)) (load book.now rater))) }
+// Fills an empty place with the table of a rater of a book.
+pub fn load_at(desk: &mut [u32; DESK], place: u32, book: &[u8], rater: u32) -> Result<(), Refusal>
+    requires { IsImage desk.old }
+    ensures value { number_in result ≡ number_of (desk_in desk.old) (change place (load book.now rater)) }
+    ensures desk_after { desk.new ≡ image_of (after (desk_in desk.old) (change place (load book.now rater))) }
 {
-    let end = at + POOLED_PLACE;
-    calls::load(&mut desk[at..end], book, rater)
+    let at = start_of(place)?;
+    calls::load(&mut desk[at..at + POOLED_PLACE], book, rater)
 }
 
-// Clear, of the place that starts at `at`.
-pub fn clear_at(desk: &mut [u32], at: usize) -> u32
-    requires { at + pooled_place_size ≤ length desk.old }
-    ensures value { result ≡ change_fault (place_in (words_from desk.old at)) clear }
-    ensures desk_after { let w = desk.old in desk.new ≡ leaves result w (with_words w at (changed_to (table_in (words_from w at)) clear)) }
+// Makes a loaded place as it is on a fresh desk.
+pub fn clear_at(desk: &mut [u32; DESK], place: u32) -> Result<(), Refusal>
+    requires { IsImage desk.old }
+    ensures value { number_in result ≡ number_of (desk_in desk.old) (change place clear) }
+    ensures desk_after { desk.new ≡ image_of (after (desk_in desk.old) (change place clear)) }
 {
-    let end = at + POOLED_PLACE;
-    calls::clear(&mut desk[at..end])
+    let at = start_of(place)?;
+    calls::clear(&mut desk[at..at + POOLED_PLACE])
 }
 
-// An event, at a grade of the table in the place that starts at `at`.
-pub fn event_at(desk: &mut [u32], at: usize, kind: Event, grade: u32) -> u32
-    requires { (at + pooled_place_size ≤ length desk.old) × IsPooledPlace (words_from desk.old at) }
-    ensures value { result ≡ change_fault (place_in (words_from desk.old at)) (event kind grade) }
-    ensures desk_after { let w = desk.old in desk.new ≡ leaves result w (with_words w at (changed_to (table_in (words_from w at)) (event kind grade))) }
+// Books an event at a grade of the table in a place.
+pub fn event_at(desk: &mut [u32; DESK], place: u32, kind: Event, grade: u32) -> Result<(), Refusal>
+    requires { IsImage desk.old }
+    ensures value { number_in result ≡ number_of (desk_in desk.old) (change place (event kind grade)) }
+    ensures desk_after { desk.new ≡ image_of (after (desk_in desk.old) (change place (event kind grade))) }
 {
-    let end = at + POOLED_PLACE;
-    calls::book_event(&mut desk[at..end], kind, grade)
+    let at = start_of(place)?;
+    calls::book_event(&mut desk[at..at + POOLED_PLACE], kind, grade)
+}
+
+// The three numbers of each grade of the table in a place, into a lent buffer whose further numbers are kept.
+pub fn pool_at(desk: &[u32; DESK], place: u32, numbers: &mut [u32]) -> Result<(), Refusal>
+    requires { IsImage desk.now }
+    ensures value { number_in result ≡ number_of (desk_in desk.now) (fill place pool numbers.old) }
+    ensures numbers_after { numbers.new ≡ lent_after (desk_in desk.now) (fill place pool numbers.old) }
+{
+    let at = start_of(place)?;
+    calls::pool(words_at(desk, at), numbers)
+}
+
+// The cheapest cutoff at price u of a missed default and v of a survivor turned away.
+pub fn cheapest_at(
+    desk: &[u32; DESK],
+    place: u32,
+    u: u32,
+    v: u32,
+) -> Result<CheapestCutoff, Refusal>
+    requires { IsImage desk.now }
+    ensures { says result ≡ answer (number_of (desk_in desk.now) (ask place (cheapest u v))) (cheapest_of (table_on desk.now place) u v) }
+{
+    let at = start_of(place)?;
+    calls::cheapest(counts_at(desk, at), u, v)
+}
+
+// D, S and the four measures of the table in a place.
+pub fn measures_at(desk: &[u32; DESK], place: u32) -> Result<Measures, Refusal>
+    requires { IsImage desk.now }
+    ensures { says result ≡ answer (number_of (desk_in desk.now) (ask place measures)) (measures_of (table_on desk.now place)) }
+{
+    let at = start_of(place)?;
+    calls::measures(counts_at(desk, at))
+}
+
+// The Brier score of the announced rates.
+pub fn brier_at(desk: &[u32; DESK], place: u32) -> Result<UnsignedFraction, Refusal>
+    requires { IsImage desk.now }
+    ensures { says result ≡ answer (number_of (desk_in desk.now) (ask place brier)) (brier_of (table_on desk.now place)) }
+{
+    let at = start_of(place)?;
+    calls::brier(counts_at(desk, at))
+}
+
+// The spread record, whose two floats are limited.
+pub fn spread_at(desk: &[u32; DESK], place: u32) -> Result<Spread, Refusal>
+    requires { IsImage desk.now }
+    ensures { Spreads (desk_in desk.now) place (says result) }
+{
+    let at = start_of(place)?;
+    calls::spread(words_at(desk, at))
 }

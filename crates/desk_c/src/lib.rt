@@ -7,28 +7,28 @@ ghost use Rattle.cutoff.specs.Cutoff.{cheapest_of};
 ghost use Rattle.measures.specs.Measures.{measures_of};
 ghost use Rattle.measures.specs.Brier.{brier_of};
 ghost use Rattle.spread.specs.Spread.{IsSpread};
-ghost use Rattle.calls.specs.Answers.{leaves, compare_says};
+ghost use Rattle.refusals.specs.Numbers.{number_in};
+ghost use Rattle.refusals.specs.Answers.{leaves, says};
 ghost use Rattle.calls.specs.Calls.{cheapest, measures, brier, spread, pool, load, clear, event};
 ghost use Rattle.desk.specs.Desk.{fresh_desk};
 ghost use Rattle.desk.specs.Calls.{ask, compare, compare_on_shares, fill, write, shortlist, change};
 ghost use Rattle.desk.specs.Calls.{number_of, after, lent_after, lent_size};
 ghost use Rattle.desk_c.specs.Image.{image_of, desk_in, table_on, IsImage};
 ghost use Rattle.desk_c.specs.Numbers.{Left, cutoff_numbers, VerdictOn, VerdictOnShares, verdict_numbers, measures_numbers, fraction_numbers, spread_numbers};
-ghost use Rattle.desk_c.specs.Private.{number_said, verdict_left};
+ghost use Rattle.desk_c.specs.Private.{verdict_left};
 ghost use Rattle.desk_c.specs.Version.{version};
 ghost use Rattle.desk_c.specs.Claims.{Claims};
 
 mod image;
 
-use crate::image::{DESK, clear_at, counts_at, event_at, load_at, start_of, words_at};
-use book::Written;
-use calls::{BrierAnswer, CheapestAnswer, CompareAnswer, MeasuresAnswer, SpreadAnswer};
+use crate::image::{
+    DESK, brier_at, cheapest_at, clear_at, counts_at, event_at, load_at, measures_at, pool_at,
+    spread_at, words_at,
+};
 use cutoff::Verdict;
-use desk::is_place;
 use events::Event;
 use pooled_place::POOLED_PLACE;
-use refusals::NO_PLACE;
-use shortlist::Shortlisted;
+use refusals::Refusal;
 
 const VERSION: u32 = 10;
 
@@ -48,6 +48,16 @@ pub extern "C" fn desk_library_is_version_10() -> u32
     desk_version()
 }
 
+// What a call that answers nothing further returns.
+fn told(done: Result<(), Refusal>) -> u32
+    ensures { result ≡ number_in done }
+{
+    match done {
+        Ok(()) => 0,
+        Err(refusal) => refusal.number(),
+    }
+}
+
 // A fresh desk.
 #[unsafe(no_mangle)]
 pub extern "C" fn desk_empty(desk: &mut [u32; DESK]) -> u32
@@ -65,10 +75,7 @@ pub extern "C" fn desk_load(desk: &mut [u32; DESK], place: u32, book: &[u8], rat
     ensures value { result ≡ number_of (desk_in desk.old) (change place (load book.now rater)) }
     ensures desk_after { desk.new ≡ image_of (after (desk_in desk.old) (change place (load book.now rater))) }
 {
-    if !is_place(place) {
-        return NO_PLACE;
-    }
-    load_at(desk, start_of(place), book, rater)
+    told(load_at(desk, place, book, rater))
 }
 
 // Makes a loaded place as it is on a fresh desk.
@@ -78,22 +85,7 @@ pub extern "C" fn desk_clear(desk: &mut [u32; DESK], place: u32) -> u32
     ensures value { result ≡ number_of (desk_in desk.old) (change place clear) }
     ensures desk_after { desk.new ≡ image_of (after (desk_in desk.old) (change place clear)) }
 {
-    if !is_place(place) {
-        return NO_PLACE;
-    }
-    clear_at(desk, start_of(place))
-}
-
-// Books an event at a grade of the table in a place.
-fn book_event(desk: &mut [u32; DESK], place: u32, kind: Event, grade: u32) -> u32
-    requires { IsImage desk.old }
-    ensures value { result ≡ number_of (desk_in desk.old) (change place (event kind grade)) }
-    ensures desk_after { desk.new ≡ image_of (after (desk_in desk.old) (change place (event kind grade))) }
-{
-    if !is_place(place) {
-        return NO_PLACE;
-    }
-    event_at(desk, start_of(place), kind, grade)
+    told(clear_at(desk, place))
 }
 
 // A survivor enters a grade, the best being 1.
@@ -103,7 +95,7 @@ pub extern "C" fn desk_survivor_enters(desk: &mut [u32; DESK], place: u32, grade
     ensures value { result ≡ number_of (desk_in desk.old) (change place (event Event.SurvivorEnters grade)) }
     ensures desk_after { desk.new ≡ image_of (after (desk_in desk.old) (change place (event Event.SurvivorEnters grade))) }
 {
-    book_event(desk, place, Event::SurvivorEnters, grade)
+    told(event_at(desk, place, Event::SurvivorEnters, grade))
 }
 
 // A survivor leaves.
@@ -113,7 +105,7 @@ pub extern "C" fn desk_survivor_leaves(desk: &mut [u32; DESK], place: u32, grade
     ensures value { result ≡ number_of (desk_in desk.old) (change place (event Event.SurvivorLeaves grade)) }
     ensures desk_after { desk.new ≡ image_of (after (desk_in desk.old) (change place (event Event.SurvivorLeaves grade))) }
 {
-    book_event(desk, place, Event::SurvivorLeaves, grade)
+    told(event_at(desk, place, Event::SurvivorLeaves, grade))
 }
 
 // A survivor defaults.
@@ -123,7 +115,7 @@ pub extern "C" fn desk_survivor_defaults(desk: &mut [u32; DESK], place: u32, gra
     ensures value { result ≡ number_of (desk_in desk.old) (change place (event Event.SurvivorDefaults grade)) }
     ensures desk_after { desk.new ≡ image_of (after (desk_in desk.old) (change place (event Event.SurvivorDefaults grade))) }
 {
-    book_event(desk, place, Event::SurvivorDefaults, grade)
+    told(event_at(desk, place, Event::SurvivorDefaults, grade))
 }
 
 // A defaulted firm is removed.
@@ -133,7 +125,7 @@ pub extern "C" fn desk_defaulted_removed(desk: &mut [u32; DESK], place: u32, gra
     ensures value { result ≡ number_of (desk_in desk.old) (change place (event Event.DefaultedRemoved grade)) }
     ensures desk_after { desk.new ≡ image_of (after (desk_in desk.old) (change place (event Event.DefaultedRemoved grade))) }
 {
-    book_event(desk, place, Event::DefaultedRemoved, grade)
+    told(event_at(desk, place, Event::DefaultedRemoved, grade))
 }
 
 // The three numbers of each grade of the table in a place, into a lent buffer whose further numbers are kept.
@@ -144,10 +136,7 @@ pub extern "C" fn desk_pool(desk: &[u32; DESK], place: u32, numbers: &mut [u32])
     ensures value { result ≡ number_of (desk_in desk.now) (fill place pool numbers.old) }
     ensures numbers_after { numbers.new ≡ lent_after (desk_in desk.now) (fill place pool numbers.old) }
 {
-    if !is_place(place) {
-        return NO_PLACE;
-    }
-    calls::pool(words_at(desk, start_of(place)), numbers)
+    told(pool_at(desk, place, numbers))
 }
 
 // The cheapest cutoff at price u of a missed default and v of a survivor turned away.
@@ -164,30 +153,26 @@ pub extern "C" fn desk_cheapest(
     ensures value { result ≡ number_of (desk_in desk.now) (ask place (cheapest u v)) }
     ensures answer_after { answer.new ≡ leaves result answer.old (cutoff_numbers (cheapest_of (table_on desk.now place) u v)) }
 {
-    if !is_place(place) {
-        return NO_PLACE;
-    }
-    let cheapest = calls::cheapest(counts_at(desk, start_of(place)), u, v);
-    match cheapest {
-        CheapestAnswer::Cheapest(c) => {
+    match cheapest_at(desk, place, u, v) {
+        Ok(c) => {
             *answer = [c.cutoff as i64, c.cost as i64];
             0
         }
-        CheapestAnswer::Refused(n) => n,
+        Err(refusal) => refusal.number(),
     }
 }
 
 // What a comparison returns, and leaves in the buffer of its answer.
-fn put_verdict(compared: CompareAnswer, answer: &mut [u32; 5]) -> u32
-    ensures value { result ≡ number_said (compare_says compared) }
-    ensures answer_after { answer.new ≡ verdict_left (compare_says compared) answer.old }
+fn put_verdict(compared: Result<Verdict, Refusal>, answer: &mut [u32; 5]) -> u32
+    ensures value { result ≡ number_in compared }
+    ensures answer_after { answer.new ≡ verdict_left (says compared) answer.old }
 {
     match compared {
-        CompareAnswer::Verdict(v) => {
+        Ok(v) => {
             *answer = numbers_of(v);
             0
         }
-        CompareAnswer::Refused(n) => n,
+        Err(refusal) => refusal.number(),
     }
 }
 
@@ -240,12 +225,8 @@ pub extern "C" fn desk_measures(desk: &[u32; DESK], place: u32, answer: &mut [i6
     ensures value { result ≡ number_of (desk_in desk.now) (ask place measures) }
     ensures answer_after { answer.new ≡ leaves result answer.old (measures_numbers (measures_of (table_on desk.now place))) }
 {
-    if !is_place(place) {
-        return NO_PLACE;
-    }
-    let measured = calls::measures(counts_at(desk, start_of(place)));
-    match measured {
-        MeasuresAnswer::Measures(m) => {
+    match measures_at(desk, place) {
+        Ok(m) => {
             *answer = [
                 m.defaults as i64,
                 m.survivors.0 as i64,
@@ -261,7 +242,7 @@ pub extern "C" fn desk_measures(desk: &[u32; DESK], place: u32, answer: &mut [i6
             ];
             0
         }
-        MeasuresAnswer::Refused(n) => n,
+        Err(refusal) => refusal.number(),
     }
 }
 
@@ -273,16 +254,12 @@ pub extern "C" fn desk_brier(desk: &[u32; DESK], place: u32, answer: &mut [i64; 
     ensures value { result ≡ number_of (desk_in desk.now) (ask place brier) }
     ensures answer_after { answer.new ≡ leaves result answer.old (fraction_numbers (brier_of (table_on desk.now place))) }
 {
-    if !is_place(place) {
-        return NO_PLACE;
-    }
-    let scored = calls::brier(counts_at(desk, start_of(place)));
-    match scored {
-        BrierAnswer::Brier(f) => {
+    match brier_at(desk, place) {
+        Ok(f) => {
             *answer = [f.numerator as i64, f.denominator as i64];
             0
         }
-        BrierAnswer::Refused(n) => n,
+        Err(refusal) => refusal.number(),
     }
 }
 
@@ -294,16 +271,12 @@ pub extern "C" fn desk_spread(desk: &[u32; DESK], place: u32, answer: &mut [f64;
     ensures value { result ≡ number_of (desk_in desk.now) (ask place spread) }
     ensures left { Left result (IsSpread (table_on desk.now place)) spread_numbers answer.old answer.new }
 {
-    if !is_place(place) {
-        return NO_PLACE;
-    }
-    let spread = calls::spread(words_at(desk, start_of(place)));
-    match spread {
-        SpreadAnswer::Spread(s) => {
+    match spread_at(desk, place) {
+        Ok(s) => {
             *answer = [s.total, s.residual];
             0
         }
-        SpreadAnswer::Refused(n) => n,
+        Err(refusal) => refusal.number(),
     }
 }
 
@@ -316,13 +289,12 @@ pub extern "C" fn desk_write(desk: &[u32; DESK], book: &mut [u8], written: &mut 
     ensures book_after { book.new ≡ lent_after (desk_in desk.now) (write book.old) }
     ensures written_after { let d = desk_in desk.now in written.new ≡ leaves result written.old (lent_size d (write book.old)) }
 {
-    let answered = book::write(counts_at(desk, 0), counts_at(desk, POOLED_PLACE), book);
-    match answered {
-        Written::Length(n) => {
-            *written = n as usize;
+    match book::write(counts_at(desk, 0), counts_at(desk, POOLED_PLACE), book) {
+        Ok(n) => {
+            *written = n;
             0
         }
-        Written::Refused(n) => n,
+        Err(refusal) => refusal.number(),
     }
 }
 
@@ -335,13 +307,12 @@ pub extern "C" fn desk_shortlist(book: &[u8], numbers: &mut [u32], count: &mut u
     ensures numbers_after { numbers.new ≡ lent_after fresh_desk (shortlist book.now numbers.old) }
     ensures count_after { let c = shortlist book.now numbers.old in count.new ≡ leaves result count.old (lent_size fresh_desk c) }
 {
-    let answered = desk::shortlist(book, numbers);
-    match answered {
-        Shortlisted::Count(n) => {
-            *count = n as usize;
+    match desk::shortlist(book, numbers) {
+        Ok(n) => {
+            *count = n;
             0
         }
-        Shortlisted::Refused(n) => n,
+        Err(refusal) => refusal.number(),
     }
 }
 

@@ -5,6 +5,7 @@ ghost use Rattle.std.specs.Prelude.{◌≤◌, ◌<◌, ◌≡◌, [], ◌∷◌
 ghost use Rattle.table.specs.Table.{Counted, obligors_in};
 ghost use Rattle.table.specs.Place.{blank};
 ghost use Rattle.table.specs.Words.{table_in, HoldsTable};
+ghost use Rattle.refusals.specs.Numbers.{number_in};
 ghost use Rattle.book.specs.Checks.{at_most, fault};
 ghost use Rattle.pooled_place.specs.Words.{HoldsPooledTable};
 ghost use Rattle.events.specs.Events.{grade_after, table_after, firm_checks, event_fault};
@@ -12,11 +13,11 @@ ghost use Rattle.events.specs.Private.{grade_of, counts_of_lem, Takes, words_aft
 ghost use Rattle.events.specs.Claims.{Claims};
 
 use pooled_place::{counts_of, pool_anew};
-use refusals::{FULL_TABLE, NO_FIRM, NO_GRADE};
-use table::{DEFAULTS, OBLIGORS, Obligors, grades_of, obligors_at, obligors_of, wide};
+use refusals::Refusal;
+use table::{DEFAULTS, OBLIGORS, Obligors, grades_of, obligors_at, obligors_of};
 
 // What is booked at a grade.
-#[derive(Clone, Copy)]
+#[derive(Clone, Copy, Debug, PartialEq, Eq)]
 pub enum Event {
     SurvivorEnters,
     SurvivorLeaves,
@@ -31,46 +32,51 @@ struct Counts {
     defaults: u32,
 }
 
-// 37 where there is no such firm, or else 0.
-fn firm_fault(firms: u32) -> u32
-    ensures { result ≡ fault (at_most 1 firms 37 ∷ []) }
-{
-    if firms == 0 { NO_FIRM } else { 0 }
-}
-
-// 37 where there is no such firm, or it would be the last obligor of the table that goes, or else 0.
-fn exit_fault(firms: u32, counts: &[u32]) -> u32
-    requires { HoldsTable counts.now }
-    ensures { result ≡ fault (at_most 1 firms 37 ∷ at_most 2 (obligors_in (table_in counts.now)) 37 ∷ []) }
+// Whether there is such a firm.
+fn check_firm(firms: u32) -> Result<(), Refusal>
+    ensures { number_in result ≡ fault (at_most 1 firms 37 ∷ []) }
 {
     if firms == 0 {
-        return NO_FIRM;
+        return Err(Refusal::NoFirm);
     }
-    let all = obligors_of(counts);
-    if all.0 < 2 { NO_FIRM } else { 0 }
+    Ok(())
 }
 
-// 38 where the table has no room for one more obligor, or else 0.
-fn entry_fault(counts: &[u32]) -> u32
+// Whether there is such a firm, and it is not the last obligor of the table that goes.
+fn check_exit(firms: u32, counts: &[u32]) -> Result<(), Refusal>
     requires { HoldsTable counts.now }
-    ensures { result ≡ fault (firm_checks Event.SurvivorEnters blank (obligors_in (table_in counts.now))) }
+    ensures { number_in result ≡ fault (at_most 1 firms 37 ∷ at_most 2 (obligors_in (table_in counts.now)) 37 ∷ []) }
 {
-    let all = obligors_of(counts);
-    if all.0 < OBLIGORS { 0 } else { FULL_TABLE }
+    if firms == 0 || obligors_of(counts).0 < 2 {
+        return Err(Refusal::NoFirm);
+    }
+    Ok(())
+}
+
+// Whether the table has room for one more obligor.
+fn check_entry(counts: &[u32]) -> Result<(), Refusal>
+    requires { HoldsTable counts.now }
+    ensures { number_in result ≡ fault (firm_checks Event.SurvivorEnters blank (obligors_in (table_in counts.now))) }
+{
+    if obligors_of(counts).0 < OBLIGORS {
+        Ok(())
+    } else {
+        Err(Refusal::FullTable)
+    }
 }
 
 impl Event {
-    // 0, or the number that the event is refused with at a grade with these counts.
-    fn fault(self, at: Counts, counts: &[u32]) -> u32
+    // Whether the event can be booked at a grade with these counts.
+    fn check(self, at: Counts, counts: &[u32]) -> Result<(), Refusal>
         requires { HoldsTable counts.now × Counted (grade_of at) }
-        ensures { result ≡ fault (firm_checks self (grade_of at) (obligors_in (table_in counts.now))) }
+        ensures { number_in result ≡ fault (firm_checks self (grade_of at) (obligors_in (table_in counts.now))) }
     {
         let survivors = at.obligors.survivors(at.defaults);
         match self {
-            Event::SurvivorEnters => entry_fault(counts),
-            Event::SurvivorLeaves => exit_fault(survivors.0, counts),
-            Event::SurvivorDefaults => firm_fault(survivors.0),
-            Event::DefaultedRemoved => exit_fault(at.defaults, counts),
+            Event::SurvivorEnters => check_entry(counts),
+            Event::SurvivorLeaves => check_exit(survivors.0, counts),
+            Event::SurvivorDefaults => check_firm(survivors.0),
+            Event::DefaultedRemoved => check_exit(at.defaults, counts),
         }
     }
 
@@ -101,35 +107,29 @@ impl Event {
     }
 }
 
-// Books an event at a grade, the best being 1, of the table in a lent place, and makes its pooled list anew; 0, or the refusal number.
-pub fn book_event(words: &mut [u32], event: Event, grade: u32) -> u32
+// Books an event at a grade, the best being 1, of the table in a lent place, and makes its pooled list anew.
+pub fn book_event(words: &mut [u32], event: Event, grade: u32) -> Result<(), Refusal>
     requires { HoldsPooledTable words.old }
-    ensures value { result ≡ event_fault event grade (table_in words.old) }
-    ensures words_after { let w = words.old in words.new ≡ words_after_lem result (table_after event grade (table_in w)) w }
+    ensures value { number_in result ≡ event_fault event grade (table_in words.old) }
+    ensures words_after { let w = words.old in words.new ≡ words_after_lem (number_in result) (table_after event grade (table_in w)) w }
 {
-    let g = wide(grade);
+    let g = grade as usize;
     let counts = counts_of(words);
     let grades = grades_of(counts);
-    if g < 1 {
-        return NO_GRADE;
-    }
-    if grades < g {
-        return NO_GRADE;
+    if g < 1 || grades < g {
+        return Err(Refusal::NoGrade);
     }
     let i = g - 1;
     let at = Counts {
         obligors: obligors_at(counts, i),
         defaults: counts[DEFAULTS + i],
     };
-    let number = event.fault(at, counts);
-    if number != 0 {
-        return number;
-    }
+    event.check(at, counts)?;
     let after = event.after(at);
     words[i] = after.obligors.0;
     words[DEFAULTS + i] = after.defaults;
     pool_anew(words);
-    0
+    Ok(())
 }
 
 // What is claimed of events: the function does nothing, its contract is all claims of this crate.

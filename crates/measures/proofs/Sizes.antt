@@ -1,5 +1,5 @@
 -- How large the numbers of a table's measures are: all fit a signed number of 64 bits.
-use Prim.Native.Nat.{◌-◌, ◌*◌, ◌≤◌}
+use Prim.Native.Nat.{ℕ, ◌-◌, ◌*◌, ◌≤◌}
 use mathlib.Core.List.{[], ◌∷◌}
 use native.Mathlib.Nat.{mul-le-mul_left}
 use native.Mathlib.Omega.{arith}
@@ -7,7 +7,7 @@ use Rattle.table.specs.Table.{Table, Grade, Every, Counted, Rated, Sound, surviv
 use Rattle.table.proofs.Arithmetic.{counts_le}
 use Rattle.table.proofs.Suffix.{sound_small, few_counts}
 use Rattle.measures.specs.declared.Measures.{Measures}
-use Rattle.measures.specs.declared.UnsignedFraction.{UnsignedFraction}
+use Rattle.measures.specs.declared.Fraction.{Fraction}
 use Rattle.measures.specs.Measures.{measures_of}
 use Rattle.measures.specs.Brier.{brier_at, brier_sum, brier_of}
 use Rattle.measures.proofs.Pairs.{every_pair}
@@ -25,7 +25,7 @@ unfolding brier_sum obligors_in
 brier_le [] counted rated = omega arith
 brier_le (r ∷ t) counted rated = omega (arith, brier_at_le r counted.0 rated.0, brier_le t counted.1 rated.1)
 
-pub record FewBrier (f : UnsignedFraction) : Type 0 where
+pub record FewBrier (f : Fraction ℕ) : Type 0 where
   pub numerator : f.numerator ≤ 1_000_000_000_000_000_000
   pub denominator : f.denominator ≤ 1_000_000_000_000_000_000
 

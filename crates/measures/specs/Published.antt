@@ -5,19 +5,18 @@ use Rattle.table.specs.Table.{Table, survivors, defaults_in, survivors_in, oblig
 use Rattle.pooling.specs.Fraction.{Fraction, nought, ratio, sum, difference, square, product}
 use Rattle.cutoff.specs.Cutoff.{caught, lost}
 use Rattle.measures.specs.Pairs.{number, obligors_of_lem, Pair, pairs_among}
-use Rattle.measures.specs.declared.SignedFraction.{SignedFraction}
-use Rattle.measures.specs.declared.UnsignedFraction.{UnsignedFraction}
+use Rattle.measures.specs.declared.Fraction.{Fraction as Measured}
 
 -- The value of a fraction that the code returns.
 
-abbrev pub value : UnsignedFraction → Fraction
+abbrev pub value : Measured ℕ → Fraction
 value x = ratio x.numerator x.denominator
 
 abbrev pub over : ℤ → ℕ → Fraction
 over (pos n) d = record { plus = n; minus = 0; over = d }
 over (negsuc n) d = record { plus = 0; minus = suc n; over = d }
 
-abbrev pub signed_value : SignedFraction → Fraction
+abbrev pub signed_value : Measured ℤ → Fraction
 signed_value x = over x.numerator x.denominator
 
 -- Curves (document 000, chapter 2): a point for each cutoff, from none to all grades turned away.

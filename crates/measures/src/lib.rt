@@ -1,8 +1,7 @@
 // The measures of a rating scale: Gini, the curve areas, Pietra, and the Brier score of the announced rates.
 #![tactic(auto)]
 
-ghost use Rattle.std.specs.Prelude.{◌+◌, ◌-◌, ◌*◌, ◌≤◌, ◌≡◌, nat_abs};
-ghost use Rattle.std.proofs.Math.IntN.{sub_ℕ};
+ghost use Rattle.std.specs.Prelude.{◌+◌, ◌-◌, ◌*◌, ◌≤◌, ◌≡◌};
 ghost use Rattle.table.specs.Table.{defaults_in, survivors_in};
 ghost use Rattle.table.specs.Words.{table_in, HoldsTable};
 ghost use Rattle.measures.specs.Measures.{measures_of};
@@ -10,20 +9,18 @@ ghost use Rattle.measures.specs.Private.{pair_counts_of, farthest_of};
 ghost use Rattle.measures.specs.Brier.{brier_of};
 ghost use Rattle.measures.specs.Claims.{Claims};
 
-use table::{ANNOUNCED, DEFAULTS, Obligors, PPM, Survivors, grades_of, obligors_at};
+use table::{ANNOUNCED, DEFAULTS, Obligors, PPM, Survivors, difference, grades_of, obligors_at};
 
 // A fraction as document 01 writes it, not reduced.
 #[derive(Clone, Copy)]
-pub struct UnsignedFraction {
-    pub numerator: u64,
+pub struct Fraction<N> {
+    pub numerator: N,
     pub denominator: u64,
 }
 
-#[derive(Clone, Copy)]
-pub struct SignedFraction {
-    pub numerator: i64,
-    pub denominator: u64,
-}
+pub type UnsignedFraction = Fraction<u64>;
+
+pub type SignedFraction = Fraction<i64>;
 
 // D, S and the four measures of a table; `cutoff` is the smallest one at Pietra's distance from the diagonal.
 #[derive(Clone, Copy)]
@@ -54,45 +51,33 @@ struct FarthestCutoff {
 }
 
 // How many pairs of a default and a survivor there are.
+#[tactic(auto, using(table::proofs::Arithmetic::words_fit))]
 fn pairs_of(defaults: u32, survivors: Survivors) -> u64
     ensures { result ≡ defaults * survivors.0 }
 {
     (defaults as u64) * (survivors.0 as u64)
 }
 
-// How many of a default and an obligor: the CAP curve is over all obligors.
+// How many of a default and an obligor: the CAP curve is over all obligors. One function over both kinds of count, or over bare numbers, would take
+// obligors for survivors where `pairs_of` now refuses them.
+#[tactic(auto, using(table::proofs::Arithmetic::words_fit))]
 fn profile_of(defaults: u32, obligors: Obligors) -> u64
     ensures { result ≡ defaults * obligors.0 }
 {
     (defaults as u64) * (obligors.0 as u64)
 }
 
-fn difference(a: u64, b: u64) -> i64
-    requires { (a ≤ 1_000_000_000_000) × (b ≤ 1_000_000_000_000) }
-    ensures { result ≡ sub_ℕ a b }
-{
-    (a as i64) - (b as i64)
-}
-
-// How far two numbers are apart, whichever is larger.
-fn apart(a: u64, b: u64) -> u64
-    ensures { result ≡ nat_abs (sub_ℕ a b) }
-{
-    if a < b { b - a } else { a - b }
-}
-
 // From the worst grade to the best: each grade's survivors with the defaults in worse grades, and its defaults with the survivors there.
+#[tactic(auto, using(table::proofs::Words::few_in, table::proofs::Words::turn))]
 fn count_pairs(place: &[u32]) -> PairCounts
     requires { HoldsTable place.now }
     ensures { result ≡ pair_counts_of (table_in place.now) }
 {
-    let mut i = grades_of(place);
     let mut defaulted: u32 = 0;
     let mut survivors = Survivors(0);
     let mut concordant: u64 = 0;
     let mut discordant: u64 = 0;
-    while 0 < i {
-        i -= 1;
+    for i in (0..grades_of(place)).rev() {
         let d = place[DEFAULTS + i];
         let s = obligors_at(place, i).survivors(d);
         concordant += pairs_of(defaulted, s);
@@ -109,6 +94,7 @@ fn count_pairs(place: &[u32]) -> PairCounts
 }
 
 // Cutoff by cutoff from none turned away, of which the height is 0, to all. `defaulted` and `survivors` are the table's.
+#[tactic(auto, using(table::proofs::Words::few_in, table::proofs::Words::turn))]
 fn farthest(place: &[u32], defaulted: u32, survivors: Survivors) -> FarthestCutoff
     requires holds_table { HoldsTable place.now }
     requires all_defaults { defaulted ≡ defaults_in (table_in place.now) }
@@ -116,19 +102,17 @@ fn farthest(place: &[u32], defaulted: u32, survivors: Survivors) -> FarthestCuto
     ensures { result ≡ farthest_of (table_in place.now) }
 {
     let grades = grades_of(place);
-    let mut i = grades;
     // The ROC curve and the diagonal at a cutoff, times D S.
     let mut curve: u64 = 0;
     let mut diagonal: u64 = 0;
     let mut cutoff: u32 = 0;
     let mut height: i64 = 0;
     let mut distance: u64 = 0;
-    while 0 < i {
-        i -= 1;
+    for i in (0..grades).rev() {
         let d = place[DEFAULTS + i];
         curve += pairs_of(d, survivors);
         diagonal += pairs_of(defaulted, obligors_at(place, i).survivors(d));
-        let here = apart(curve, diagonal);
+        let here = curve.abs_diff(diagonal);
         if distance < here {
             distance = here;
             height = difference(curve, diagonal);
@@ -174,6 +158,7 @@ pub fn measure(place: &[u32]) -> Measures
 }
 
 // The square of a difference in ppm.
+#[tactic(auto, using(table::proofs::Arithmetic::words_fit))]
 fn square(ppm: u32) -> u64
     ensures { result ≡ ppm * ppm }
 {
@@ -190,15 +175,14 @@ fn squares(defaults: u32, survivors: Survivors, rate: u32) -> u64
 }
 
 // The Brier score of the announced rates of the table in a lent place.
+#[tactic(auto, using(table::proofs::Words::few_in, table::proofs::Words::turn))]
 pub fn brier(place: &[u32]) -> UnsignedFraction
     requires { HoldsTable place.now }
     ensures { result ≡ brier_of (table_in place.now) }
 {
-    let mut i = grades_of(place);
     let mut all = Obligors(0);
     let mut sum: u64 = 0;
-    while 0 < i {
-        i -= 1;
+    for i in (0..grades_of(place)).rev() {
         let n = obligors_at(place, i);
         let d = place[DEFAULTS + i];
         let s = n.survivors(d);

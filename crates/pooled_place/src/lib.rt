@@ -1,16 +1,16 @@
 // A place that keeps its pooled list beside its counts (document 02's R-8).
 #![tactic(auto)]
 
-ghost use Rattle.std.specs.Prelude.{◌<◌, ◌≡◌, ◌++◌, length, drop};
+ghost use Rattle.std.specs.Prelude.{◌≡◌, ◌++◌, length};
 ghost use Rattle.table.specs.Table.{Sound};
 ghost use Rattle.table.specs.Words.{place_in, table_in};
-ghost use Rattle.pooling.specs.Private.{block_words, spanning};
+ghost use Rattle.pooling.specs.Private.{listed, spanning};
 ghost use Rattle.pooling.specs.Numbers.{pooled_into};
 ghost use Rattle.pooled_place.specs.PooledPlace.{fresh_pooled_place, SoundPooledPlace};
 ghost use Rattle.pooled_place.specs.Words.{pooled_place_size, pooled_place_words, counts_in, list_in, pooled_place_in, HoldsPooledTable};
 
-use pooling::{BLOCKS, blocks_in, blocks_of, write_blocks};
-use table::{GRADE_COUNT, LOADED, PLACE, Place, grades_of, put_numbers, wide, wipe_words};
+use pooling::{Blocks, blocks_in, blocks_of, write_blocks};
+use table::{PLACE, Place, grades_of, put_numbers};
 
 // The numbers of a pooled list: three for each of 40 grades.
 pub const LIST: usize = 120;
@@ -41,32 +41,15 @@ pub fn list_of(words: &[u32]) -> &[u32]
     &words[PLACE..]
 }
 
-// Whether the place is loaded.
-pub fn place_loaded(words: &[u32]) -> bool
-    requires { length words.now ≡ pooled_place_size }
-    ensures { result ≡ (place_in words.now).loaded }
-{
-    words[LOADED] == 1
-}
-
-// The grade count.
-pub fn place_grades(words: &[u32]) -> usize
-    requires { length words.now ≡ pooled_place_size }
-    ensures { result ≡ (place_in words.now).grades }
-{
-    wide(words[GRADE_COUNT])
-}
-
 // Makes the list anew from the counts.
 pub fn pool_anew(words: &mut [u32])
     requires { (length words.old ≡ pooled_place_size) × Sound (table_in words.old) }
     ensures { let w = words.old in words.new ≡ counts_in w ++ pooled_into (table_in w) (list_in w) }
 {
-    let mut items = [0; BLOCKS];
-    let counts = counts_of(words);
-    let start = blocks_of(counts, &mut items);
-    let grades = grades_of(counts);
-    write_blocks(&items, start, grades, &mut words[PLACE..]);
+    let mut blocks = Blocks::none();
+    blocks_of(counts_of(words), &mut blocks);
+    let grades = grades_of(words);
+    write_blocks(blocks.as_slice(), grades, &mut words[PLACE..]);
 }
 
 // Makes the words those of an empty place: its counts and its list are dropped.
@@ -74,16 +57,15 @@ pub fn wipe_place(words: &mut [u32])
     requires { length words.old ≡ pooled_place_size }
     ensures { words.new ≡ pooled_place_words fresh_pooled_place }
 {
-    wipe_words(words);
+    words.fill(0);
 }
 
-// Stores the blocks of the table at the end of `items`, and answers where they start. Nothing is pooled: they are read from the list.
-pub fn listed_blocks(words: &[u32], items: &mut [u32; BLOCKS]) -> usize
-    requires { HoldsPooledTable words.now × (length items.old ≡ 120) }
-    ensures blocks { (drop result items.new ≡ block_words (spanning (table_in words.now))) × (result < 120) }
-    ensures length { length items.new ≡ 120 }
+// Makes lent blocks those of the table. Nothing is pooled: they are read from the list.
+pub fn listed_blocks(words: &[u32], blocks: &mut Blocks)
+    requires { HoldsPooledTable words.now }
+    ensures { listed blocks.new ≡ spanning (table_in words.now) }
 {
-    blocks_in(list_of(words), place_grades(words), items)
+    blocks_in(list_of(words), grades_of(words), blocks)
 }
 
 impl PooledPlace {

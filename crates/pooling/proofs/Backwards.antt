@@ -4,7 +4,7 @@ use mathlib.Core.Path.{◌≡◌, refl}
 use mathlib.Core.List.{List, ◌∷◌, ◌++◌}
 use native.Mathlib.Numerals.{add-one}
 use native.Mathlib.Omega.{arith}
-use lib.ListN.{length, take, drop, set, take-append-drop}
+use lib.ListN.{length, take, drop, set}
 use lib.Seq.{take-suc, append_snoc, set_at, length-take-le, take-append-le, take-take, drop_at}
 
 -- one number more, at index a
@@ -19,13 +19,6 @@ pub put_three : (o w : List ℕ) (s a x y z : ℕ) → s ≡ a + 3 → s ≤ len
     → set (set (set (take s o ++ w) (a + 2) z) (a + 1) y) a x ≡ take a o ++ x ∷ y ∷ z ∷ w
 put_three o w s a x y z e h =
     rw (put o w s (a + 2) z (omega arith) h, put o (z ∷ w) (a + 2) (a + 1) y (omega arith) (omega arith), put o (y ∷ z ∷ w) (a + 1) a x refl (omega arith))
-
--- All numbers from index a on, where three are stored there.
-pub stored-three : (l : List ℕ) (a x y z : ℕ) → a + 3 ≤ length l
-    → drop a (set (set (set l (a + 2) z) (a + 1) y) a x) ≡ x ∷ y ∷ z ∷ drop (a + 3) l
-stored-three l a x y z h =
-    let e = rw take-append-drop at (put_three l (drop (a + 3) l) (a + 3) a x y z refl h) in
-    rw e (drop_at (take a l) _ a (length-take-le a l (omega arith)))
 
 -- numbers more, from index a on, by a callee that writes f of what stands from index s on
 pub put_more : (o w out : List ℕ) (s a : ℕ) (f : List ℕ → List ℕ) → out ≡ take s o ++ w → a ≤ s → s ≤ length o

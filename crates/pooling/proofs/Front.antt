@@ -1,10 +1,9 @@
 -- Joining blocks: a goal about `front` by its two outcomes, the rates that it makes rise, and what it keeps of every block.
-use Prim.Native.Nat.{ℕ, zero, suc, ◌*◌, ◌≤◌}
+use Prim.Native.Nat.{◌*◌, ◌≤◌}
 use mathlib.Core.Path.{◌≡◌}
-use mathlib.Core.List.{List, [], ◌∷◌}
+use mathlib.Core.List.{List, [], ◌∷◌, ◌++◌}
 use borrow.Author.Tests.{lt-ltb}
 use lib.Dec.{ltb→lt, nltb→le}
-use lib.ListN.{drop}
 use Rattle.table.specs.Table.{Table, Every}
 use Rattle.table.proofs.Test.{by-test}
 use Rattle.pooling.specs.Pool.{Block, single, join, RateBelow, rate_below, front, pool, Rising}
@@ -31,11 +30,11 @@ unfolding Rising
 rising_tail b [] h = tt
 rising_tail b (c ∷ bs) h = h.1
 
-pub rising_drop : (bs : List Block) (m : ℕ) → Rising bs → Rising (drop m bs)
+-- Neighbours among them.
+pub rising_at : (others : List Block) (b c : Block) (bs : List Block) → Rising (others ++ b ∷ c ∷ bs) → RateBelow b c
 unfolding Rising
-rising_drop bs zero h = h
-rising_drop [] (suc m) h = tt
-rising_drop (b ∷ bs) (suc m) h = rising_drop bs m (rising_tail b bs h)
+rising_at [] b c bs h = h.0
+rising_at (a ∷ others) b c bs h = rising_at others b c bs (rising_tail a (others ++ b ∷ c ∷ bs) h)
 
 front_rising : (b : Block) (bs : List Block) → Rising bs → Rising (front b bs)
 unfolding Rising front

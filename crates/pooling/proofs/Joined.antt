@@ -1,11 +1,11 @@
 -- Joining keeps the counts: the blocks hold all grades, obligors and defaults of the table, and are occupied and counted as its grades are.
-use Prim.Native.Nat.{ℕ, zero, suc, ◌≤◌}
+use Prim.Native.Nat.{◌≤◌}
 use mathlib.Core.Path.{◌≡◌, refl, ap, ◌∙◌}
-use mathlib.Core.List.{List, [], ◌∷◌, map}
+use mathlib.Core.List.{List, [], ◌∷◌, ◌++◌, map}
 use native.Mathlib.Nat.{add_assoc}
 use native.Mathlib.Numerals.{one-add}
 use native.Mathlib.Omega.{arith}
-use lib.ListN.{length, drop}
+use lib.ListN.{length}
 use Rattle.table.specs.Table.{Table, Every, Occupied, Counted, occupied, defaults_in, obligors_in}
 use Rattle.table.proofs.Occupied.{same_counts}
 use Rattle.pooling.specs.Pool.{Block, single, join, front, pool, blocks, as_grade, pooled_scale, block_of}
@@ -32,11 +32,10 @@ pub grades_count : (t : Table) → (sum_of (pool t)).grades ≡ length t
 grades_count t = ap (λ b. b.grades) (sum-pool t)
 
 -- Some of the blocks have no more grades than all.
-pub grades_drop : (bs : List Block) (m : ℕ) → (sum_of (drop m bs)).grades ≤ (sum_of bs).grades
+pub grades_behind : (others bs : List Block) → (sum_of bs).grades ≤ (sum_of (others ++ bs)).grades
 unfolding sum_of
-grades_drop bs zero = omega arith
-grades_drop [] (suc m) = omega arith
-grades_drop (b ∷ bs) (suc m) = omega (arith, grades_drop bs m)
+grades_behind [] bs = omega arith
+grades_behind (b ∷ others) bs = omega (arith, grades_behind others bs)
 
 -- The pooled scale has the totals of the table.
 

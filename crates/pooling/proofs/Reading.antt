@@ -1,5 +1,5 @@
 -- The numbers of blocks whose rates rise, read back as blocks, are those blocks: so are those that a table's pooling writes.
-use Prim.Native.Nat.{ℕ, zero, suc, ◌+◌, ◌-◌, ◌*◌, ◌≤◌}
+use Prim.Native.Nat.{ℕ, zero, suc, ◌+◌, ◌*◌, ◌≤◌}
 use mathlib.Core.Path.{◌≡◌, refl, sym, ap, ◌∙◌}
 use mathlib.Core.Bool.{true, false}
 use mathlib.Core.List.{List, [], ◌∷◌}
@@ -16,8 +16,8 @@ use Rattle.pooling.specs.Pool.{Block, RateBelow, Rising}
 use Rattle.pooling.specs.Numbers.{grades_of_lem, numbers_of_lem, pooled_into}
 use Rattle.pooling.specs.Private.{block, waiting, behind_waiting, lengthened, spanning, sum_of, shows, grown, runs_in}
 use Rattle.pooling.proofs.Front.{rising_tail, front_every}
-use Rattle.pooling.proofs.Spanning.{spanning_rising, spanning-numbers, spanning_count}
-use Rattle.pooling.proofs.Written.{numbers_rest}
+use Rattle.pooling.proofs.Spanning.{spanning_rising, spanning_count}
+use Rattle.pooling.proofs.Written.{spanning_written}
 
 -- Each block has a grade.
 
@@ -65,9 +65,6 @@ runs_from l k m =
     let e : 3 * k + 3 ≡ 3 * (k + 1) = omega arith in
     rw (d, get_or-drop (3 * k) l 1 0, drop-drop 3 (3 * k) l, e)
 
-pub runs_whole : (l : List ℕ) (g k : ℕ) → k ≡ 0 → runs_in (g - k) (drop (3 * k) l) ≡ runs_in g l
-runs_whole l g k e = let z : g - 0 ≡ g = omega arith in rw (e, z)
-
 -- The grades of a block, before blocks with higher rates.
 grades_back : (b : Block) (k m : ℕ) (rest : List ℕ) (bs : List Block) → Rising (b ∷ bs) → runs_in m rest ≡ bs
     → runs_in (suc k + m) (grades_of_lem b (suc k) rest) ≡ block (suc k) b.obligors.0 b.defaults ∷ bs
@@ -95,5 +92,5 @@ runs_back (b ∷ bs) rest h g =
 
 pub pooled_back : (t : Table) → Sound t → (out : List ℕ) → runs_in (length t) (pooled_into t out) ≡ spanning t
 pooled_back t sound out =
-    rw (← spanning_count t sound.counted sound.some_occupied, ← spanning-numbers t sound.some_occupied, ← numbers_rest (spanning t) _)
+    rw (← spanning_written t sound.some_occupied out, ← spanning_count t sound.counted sound.some_occupied)
     (runs_back (spanning t) _ (spanning_rising t) (spanning_graded t))

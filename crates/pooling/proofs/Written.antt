@@ -11,8 +11,9 @@ use Rattle.table.proofs.Occupied.{none_empty}
 use Rattle.pooling.specs.Pool.{Block, pool, blocks}
 use Rattle.pooling.specs.Regression.{rate_of, rates_in, pooled_rates}
 use Rattle.pooling.specs.Numbers.{grades_of_lem, numbers_of_lem, own_numbers, pooled_numbers, pooled_into, numbers_at_occupied, rates_written, rates_at_occupied}
-use Rattle.pooling.specs.Private.{sum_of}
+use Rattle.pooling.specs.Private.{spanning, sum_of}
 use Rattle.pooling.proofs.Joined.{grades_count}
+use Rattle.pooling.proofs.Spanning.{spanning-numbers}
 use Rattle.pooling.proofs.Repeating.{length_pooled_numbers, numbers-at-occupied, all_own}
 
 -- The rates.
@@ -34,12 +35,18 @@ unfolding grades_of_lem
 grades_rest x zero rest = refl
 grades_rest x (suc k) rest = rw (grades_rest x k rest)
 
-pub numbers_rest : (bs : List Block) (rest : List ℕ) → numbers_of_lem bs rest ≡ numbers_of_lem bs [] ++ rest
+numbers_rest : (bs : List Block) (rest : List ℕ) → numbers_of_lem bs rest ≡ numbers_of_lem bs [] ++ rest
 unfolding numbers_of_lem
 numbers_rest [] rest = refl
 numbers_rest (b ∷ bs) rest =
     grades_rest b b.grades (numbers_of_lem bs rest)
     ∙ rw (numbers_rest bs rest, grades_rest b b.grades (numbers_of_lem bs []), append_assoc)
+
+-- Those of the blocks that the code makes, and then the further ones, are what pool writes.
+pub spanning_written : (t : Table) → 1 ≤ length (occupied t) → (out : List ℕ) → numbers_of_lem (spanning t) (drop (3 * length t) out) ≡ pooled_into t out
+spanning_written t some out =
+    let rest = drop (3 * length t) out in
+    numbers_rest (spanning t) rest ∙ ap (λ (l : List ℕ). l ++ rest) (spanning-numbers t some)
 
 length_grades : (x : Block) (k : ℕ) (rest : List ℕ) → length (grades_of_lem x k rest) ≡ 3 * k + length rest
 unfolding grades_of_lem

@@ -1,9 +1,10 @@
 -- Serves contracts of functions inside the library only: what is promised does not rest on it.
--- The blocks that the code holds, and their words: three numbers for each, its grades, its obligors and its defaults.
+-- The blocks that the code holds.
 use Rattle.std.specs.Prelude.{ℕ, zero, suc, ◌+◌, ◌≤◌, Bool, cond, ◌&&◌, List, [], ◌∷◌, eqb, get_or, drop}
 use Rattle.table.specs.Table.{Table, is_occupied}
 use Rattle.table.specs.Counts.{largest}
 use Rattle.pooling.specs.declared.Block.{Block}
+use Rattle.pooling.specs.declared.blocks.Blocks.{Blocks}
 use Rattle.pooling.specs.Pool.{join, front}
 
 -- k grades with n obligors, d of whom defaulted
@@ -40,21 +41,9 @@ sum_of (b ∷ bs) = join b (sum_of bs)
 abbrev pub Fitting : Block → Type 0
 Fitting b = (b.grades ≤ largest) × (b.obligors.0 ≤ largest) × (b.defaults ≤ largest)
 
--- the words of blocks
-unfoldable pub block_words : List Block → List ℕ
-block_words [] = []
-block_words (b ∷ bs) = b.grades ∷ b.obligors.0 ∷ b.defaults ∷ block_words bs
-
--- the block in the three words from `at` on
-abbrev pub block_at_lem : List ℕ → ℕ → Block
-block_at_lem w at = block (get_or w at 0) (get_or w (at + 1) 0) (get_or w (at + 2) 0)
-
--- the blocks read back from words
-unfoldable pub blocks_in_lem : List ℕ → List Block
-blocks_in_lem [] = []
-blocks_in_lem (g ∷ []) = []
-blocks_in_lem (g ∷ n ∷ []) = []
-blocks_in_lem (g ∷ n ∷ d ∷ w) = block g n d ∷ blocks_in_lem w
+-- the blocks that stand in their room, from its start on
+abbrev pub listed : Blocks → List Block
+listed b = drop b.start b.items
 
 -- The numbers that stand for grades, read back as blocks: neighbours with the same counts are of one block.
 

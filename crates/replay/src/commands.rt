@@ -1,20 +1,11 @@
 // Each command, run on the desk.
-ghost use Rattle.std.specs.Prelude.{IfOk};
 ghost use Rattle.desk.specs.Desk.{SoundDesk};
 
-use crate::script;
-use crate::script::{Call, read_full};
-use desk::{Desk, Stored};
-use print::text;
+use crate::script::{Call, Load, read_full};
+use desk::Desk;
+use events::Event;
 use std::io;
 use std::io::{Read, Write};
-
-// The desk after a command, and whether the script goes on.
-#[derive(Clone, Copy)]
-pub struct Ran {
-    pub desk: Desk,
-    pub goes_on: bool,
-}
 
 // The longest book, in bytes.
 const BOOK: usize = 65_535;
@@ -29,89 +20,58 @@ const LENT_BYTES: usize = 8_192;
 
 const BYTE: u8 = 0xaa;
 
-// A call that changes the desk hands it back beside its answer.
-fn stored<W: Write>(out: &mut W, call: &[u8], s: Stored) -> io::Result<Ran>
-    requires { SoundDesk s.desk }
-    ensures { IfOk result (λ ran. SoundDesk ran.desk) }
-{
-    let desk = s.desk;
-    let ack = s.ack;
-    answers::ack(out, call, ack)?;
-    Ok(Ran {
-        desk,
-        goes_on: true,
-    })
-}
+// Each of these answers whether the script goes on: it ends where a call lends more than it may, or its book is cut short.
 
-// The book is read into the lent buffer first; where the input ends within it, the script does too.
-fn load_from<R: Read, W: Write>(
+// The book is read into the lent buffer first.
+fn load<R: Read, W: Write>(
     input: &mut R,
     out: &mut W,
-    desk: Desk,
-    place: u32,
-    rater: u32,
-    book: &mut [u8],
-) -> io::Result<Ran>
-    requires { SoundDesk desk }
-    ensures { IfOk result (λ ran. SoundDesk ran.desk) }
+    desk: &mut Desk,
+    call: Load,
+) -> io::Result<bool>
+    requires { SoundDesk desk.old }
+    ensures { SoundDesk desk.new }
 {
-    if read_full(input, book)? < book.len() {
-        return Ok(Ran {
-            desk,
-            goes_on: false,
-        });
+    if BOOK < call.length {
+        return Ok(false);
     }
-    stored(out, b"load", desk.load(place, book, rater))
-}
-
-fn load<R: Read, W: Write>(input: &mut R, out: &mut W, desk: Desk, call: Call) -> io::Result<Ran>
-    requires { SoundDesk desk }
-    ensures { IfOk result (λ ran. SoundDesk ran.desk) }
-{
-    let length = call.third as usize;
-    if BOOK < length {
-        return Ok(Ran {
-            desk,
-            goes_on: false,
-        });
+    let mut bytes = [0u8; BOOK];
+    let book = &mut bytes[..call.length];
+    if read_full(input, book)? < call.length {
+        return Ok(false);
     }
-    let mut book = [0u8; BOOK];
-    load_from(
-        input,
-        out,
-        desk,
-        call.first,
-        call.second,
-        &mut book[..length],
-    )
+    answers::done(out, "load", desk.load(call.place, book, call.rater))?;
+    Ok(true)
 }
 
-fn pool_into<W: Write>(out: &mut W, desk: Desk, place: u32, lent: &mut [u32]) -> io::Result<()>
-    requires { SoundDesk desk }
-{
-    let ack = desk.pool(place, lent);
-    answers::pool(out, ack, lent)
-}
-
-fn pool<W: Write>(out: &mut W, desk: Desk, place: u32, length: usize) -> io::Result<bool>
-    requires { SoundDesk desk }
+fn pool<W: Write>(out: &mut W, desk: &Desk, place: u32, length: usize) -> io::Result<bool>
+    requires { SoundDesk desk.now }
 {
     if LENT_NUMBERS < length {
         return Ok(false);
     }
     let mut numbers = [NUMBER; LENT_NUMBERS];
-    pool_into(out, desk, place, &mut numbers[..length])?;
+    let lent = &mut numbers[..length];
+    let pooled = desk.pool(place, lent);
+    answers::pool(out, pooled, lent)?;
     Ok(true)
 }
 
-// `book` is filled from the input first, as for load.
-fn shortlist_into<R: Read, W: Write>(
+// The book is read first, as for load.
+fn shortlist<R: Read, W: Write>(
     input: &mut R,
     out: &mut W,
-    book: &mut [u8],
-    lent: &mut [u32],
+    length: usize,
+    book_length: usize,
 ) -> io::Result<bool> {
-    if read_full(input, book)? < book.len() {
+    if LENT_NUMBERS < length || BOOK < book_length {
+        return Ok(false);
+    }
+    let mut numbers = [NUMBER; LENT_NUMBERS];
+    let lent = &mut numbers[..length];
+    let mut bytes = [0u8; BOOK];
+    let book = &mut bytes[..book_length];
+    if read_full(input, book)? < book_length {
         return Ok(false);
     }
     let listed = desk::shortlist(book, lent);
@@ -119,125 +79,65 @@ fn shortlist_into<R: Read, W: Write>(
     Ok(true)
 }
 
-fn shortlist<R: Read, W: Write>(
-    input: &mut R,
-    out: &mut W,
-    length: usize,
-    book_length: usize,
-) -> io::Result<bool> {
-    if LENT_NUMBERS < length {
-        return Ok(false);
-    }
-    if BOOK < book_length {
-        return Ok(false);
-    }
-    let mut numbers = [NUMBER; LENT_NUMBERS];
-    let mut book = [0u8; BOOK];
-    shortlist_into(input, out, &mut book[..book_length], &mut numbers[..length])
-}
-
-fn write_into<W: Write>(out: &mut W, desk: Desk, lent: &mut [u8]) -> io::Result<()>
-    requires { SoundDesk desk }
-{
-    let written = desk.write(lent);
-    answers::write(out, written, lent)
-}
-
-fn write<W: Write>(out: &mut W, desk: Desk, length: usize) -> io::Result<bool>
-    requires { SoundDesk desk }
+fn write<W: Write>(out: &mut W, desk: &Desk, length: usize) -> io::Result<bool>
+    requires { SoundDesk desk.now }
 {
     if LENT_BYTES < length {
         return Ok(false);
     }
     let mut bytes = [BYTE; LENT_BYTES];
-    write_into(out, desk, &mut bytes[..length])?;
+    let lent = &mut bytes[..length];
+    let written = desk.write(lent);
+    answers::write(out, written, lent)?;
     Ok(true)
 }
 
-fn spread<W: Write>(out: &mut W, desk: Desk, place: u32) -> io::Result<()>
-    requires { SoundDesk desk }
+fn spread<W: Write>(out: &mut W, desk: &Desk, place: u32) -> io::Result<()>
+    requires { SoundDesk desk.now }
 {
     answers::spread(out, desk.spread(place))
 }
 
-// A call that leaves the desk as it was; false where there is no such operation, or it lends more than it may.
-fn question<R: Read, W: Write>(
+// The call that books an event.
+fn name_of(event: Event) -> &'static str {
+    match event {
+        Event::SurvivorEnters => "survivor_enters",
+        Event::SurvivorLeaves => "survivor_leaves",
+        Event::SurvivorDefaults => "survivor_defaults",
+        Event::DefaultedRemoved => "defaulted_removed",
+    }
+}
+
+// Makes a call, and prints its answer.
+pub fn run<R: Read, W: Write>(
     input: &mut R,
     out: &mut W,
-    desk: Desk,
+    desk: &mut Desk,
     call: Call,
 ) -> io::Result<bool>
-    requires { SoundDesk desk }
+    requires { SoundDesk desk.old }
+    ensures { SoundDesk desk.new }
 {
-    let operation = call.operation;
-    let place = call.first;
-    match operation {
-        script::POOL => return pool(out, desk, place, call.second as usize),
-        script::CHEAPEST => answers::cheapest(out, desk.cheapest(place, call.second, call.third))?,
-        script::COMPARE => answers::compare(out, b"compare", desk.compare())?,
-        script::COMPARE_SHARES => answers::compare(out, b"compare_shares", desk.compare_shares())?,
-        script::MEASURES => answers::measures(out, desk.measures(place))?,
-        script::BRIER => answers::brier(out, desk.brier(place))?,
-        script::SPREAD => spread(out, desk, place)?,
-        script::WRITE => return write(out, desk, place as usize),
-        script::SHORTLIST => return shortlist(input, out, place as usize, call.second as usize),
-        _ => return Ok(false),
+    match call {
+        Call::Load(l) => return load(input, out, desk, l),
+        Call::Pool { place, length } => return pool(out, desk, place, length),
+        Call::Write { length } => return write(out, desk, length),
+        Call::Shortlist {
+            length,
+            book_length,
+        } => return shortlist(input, out, length, book_length),
+        Call::Clear { place } => answers::done(out, "clear", desk.clear(place))?,
+        Call::Book {
+            event,
+            place,
+            grade,
+        } => { answers::done(out, name_of(event), desk.book_event(place, event, grade))? }
+        Call::Cheapest { place, u, v } => answers::cheapest(out, desk.cheapest(place, u, v))?,
+        Call::Compare => answers::compare(out, "compare", desk.compare())?,
+        Call::CompareShares => answers::compare(out, "compare_shares", desk.compare_shares())?,
+        Call::Measures { place } => answers::measures(out, desk.measures(place))?,
+        Call::Brier { place } => answers::brier(out, desk.brier(place))?,
+        Call::Spread { place } => spread(out, desk, place)?,
     }
     Ok(true)
-}
-
-fn answered<R: Read, W: Write>(
-    input: &mut R,
-    out: &mut W,
-    desk: Desk,
-    call: Call,
-) -> io::Result<Ran>
-    requires { SoundDesk desk }
-    ensures { IfOk result (λ ran. SoundDesk ran.desk) }
-{
-    let operation = call.operation;
-    let place = call.first;
-    let grade = call.second;
-    match operation {
-        script::LOAD => load(input, out, desk, call),
-        script::CLEAR => stored(out, b"clear", desk.clear(place)),
-        script::SURVIVOR_ENTERS => stored(
-            out,
-            b"survivor_enters",
-            desk.survivor_enters(place, grade),
-        ),
-        script::SURVIVOR_LEAVES => stored(
-            out,
-            b"survivor_leaves",
-            desk.survivor_leaves(place, grade),
-        ),
-        script::SURVIVOR_DEFAULTS => stored(
-            out,
-            b"survivor_defaults",
-            desk.survivor_defaults(place, grade),
-        ),
-        script::DEFAULTED_REMOVED => stored(
-            out,
-            b"defaulted_removed",
-            desk.defaulted_removed(place, grade),
-        ),
-        _ => Ok(Ran {
-            desk,
-            goes_on: question(input, out, desk, call)?,
-        }),
-    }
-}
-
-pub fn run<R: Read, W: Write>(input: &mut R, out: &mut W, desk: Desk, call: Call) -> io::Result<Ran>
-    requires { SoundDesk desk }
-    ensures { IfOk result (λ ran. SoundDesk ran.desk) }
-{
-    let ran = answered(input, out, desk, call)?;
-    if ran.goes_on {
-        text(out, b"\n")?;
-    } else {
-        text(out, b"end\n")?;
-    }
-    out.flush()?;
-    Ok(ran)
 }

@@ -20,46 +20,44 @@
 // before the next command is read. An error of a stream ends the program: a part of the answer may be printed then, and the desk is gone.
 #![tactic(auto)]
 
-ghost use Rattle.std.specs.Prelude.{IfOk};
 ghost use Rattle.desk.specs.Desk.{SoundDesk};
 
 mod commands;
 mod script;
 
-use crate::commands::Ran;
 use crate::script::Command;
 use desk::Desk;
 use std::io;
 use std::io::{BufWriter, Read, Write};
 
-// Reads and runs one command.
-fn step<R: Read, W: Write>(input: &mut R, out: &mut W, desk: Desk) -> io::Result<Ran>
-    requires { SoundDesk desk }
-    ensures { IfOk result (λ ran. SoundDesk ran.desk) }
+// Reads and runs one command; whether the script goes on.
+fn step<R: Read, W: Write>(input: &mut R, out: &mut W, desk: &mut Desk) -> io::Result<bool>
+    requires { SoundDesk desk.old }
+    ensures { SoundDesk desk.new }
 {
-    let command = script::next(input)?;
-    match command {
-        Command::Call(call) => commands::run(input, out, desk, call),
-        Command::Finished => Ok(Ran {
-            desk,
-            goes_on: false,
-        }),
+    let goes_on = match script::next(input)? {
+        Command::Call(call) => commands::run(input, out, desk, call)?,
+        Command::Broken => false,
+        Command::Finished => return Ok(false),
+    };
+    if goes_on {
+        writeln!(out, "")?;
+    } else {
+        writeln!(out, "end")?;
     }
+    out.flush()?;
+    Ok(goes_on)
 }
 
 // A proved loop has to end, and nothing says that a script does. So the loop has a number of turns, which no script uses up.
 fn main(rt: HostRuntime) -> io::Result<()> {
     let mut input = rt.stdin();
     let mut out = BufWriter::new(rt.alloc(), rt.stdout())?;
-    let mut s = Ran {
-        desk: Desk::empty(),
-        goes_on: true,
-    };
+    let mut desk = Desk::empty();
     for _ in 0..u64::MAX {
-        if !s.goes_on {
+        if !step(&mut input, &mut out, &mut desk)? {
             break;
         }
-        s = step(&mut input, &mut out, s.desk)?;
     }
     Ok(())
 }

@@ -1,52 +1,66 @@
 // The commands of the script, as they come in.
 ghost use Rattle.std.specs.Prelude.{◌+◌, ◌<◌, ◌≤◌, length, IfOk};
 
+use events::Event;
 use std::io;
 use std::io::Read;
 
-// An operation number and its operands, 0 for those that it does not have.
+// The operands of a load.
 #[derive(Clone, Copy)]
-pub struct Call {
-    pub operation: u32,
-    pub first: u32,
-    pub second: u32,
-    pub third: u32,
+pub struct Load {
+    pub place: u32,
+    pub rater: u32,
+    // Of the book, in bytes.
+    pub length: usize,
 }
 
-// The operations, as `main` describes them.
-pub const LOAD: u32 = 1;
+// A call with its operands, as `main` describes them.
+#[derive(Clone, Copy)]
+pub enum Call {
+    Load(Load),
+    Clear {
+        place: u32,
+    },
+    Pool {
+        place: u32,
+        length: usize,
+    },
+    Cheapest {
+        place: u32,
+        u: u32,
+        v: u32,
+    },
+    Compare,
+    Measures {
+        place: u32,
+    },
+    Brier {
+        place: u32,
+    },
+    Spread {
+        place: u32,
+    },
+    Write {
+        length: usize,
+    },
+    CompareShares,
+    Shortlist {
+        length: usize,
+        book_length: usize,
+    },
+    Book {
+        event: Event,
+        place: u32,
+        grade: u32,
+    },
+}
 
-pub const CLEAR: u32 = 2;
-
-pub const POOL: u32 = 3;
-
-pub const CHEAPEST: u32 = 4;
-
-pub const COMPARE: u32 = 5;
-
-pub const MEASURES: u32 = 6;
-
-pub const BRIER: u32 = 7;
-
-pub const SPREAD: u32 = 8;
-
-pub const WRITE: u32 = 9;
-
-pub const COMPARE_SHARES: u32 = 10;
-
-pub const SHORTLIST: u32 = 11;
-
-pub const SURVIVOR_ENTERS: u32 = 12;
-
-pub const SURVIVOR_LEAVES: u32 = 13;
-
-pub const SURVIVOR_DEFAULTS: u32 = 14;
-
-pub const DEFAULTED_REMOVED: u32 = 15;
-
+// What stands next in the script. It is one of three things, and so no `Option`.
 #[derive(Clone, Copy)]
 pub enum Command {
     Call(Call),
+    // There is no such operation, or it is cut short.
+    Broken,
     // The input has ended before it.
     Finished,
 }
@@ -54,46 +68,86 @@ pub enum Command {
 // The bytes of the most operands.
 const OPERANDS: usize = 12;
 
-fn wide(b: u8) -> u32
-    ensures { result < 256 }
-{
-    b as u32
-}
-
 // The number in the 4 bytes from `at` on.
 fn number_at(b: &[u8; OPERANDS], at: usize) -> u32
     requires { at + 4 ≤ 12 }
 {
-    wide(b[at]) + 256 * wide(b[at + 1]) + 65_536 * wide(b[at + 2]) + 16_777_216 * wide(b[at + 3])
+    u32::from_le_bytes([b[at], b[at + 1], b[at + 2], b[at + 3]])
 }
 
+// How many bytes the operands of an operation take.
 fn operands_size(operation: u32) -> usize
     ensures { result ≤ 12 }
 {
     match operation {
-        LOAD | CHEAPEST => OPERANDS,
-        POOL
-        | SHORTLIST
-        | SURVIVOR_ENTERS
-        | SURVIVOR_LEAVES
-        | SURVIVOR_DEFAULTS
-        | DEFAULTED_REMOVED => 8,
-        CLEAR | MEASURES | BRIER | SPREAD | WRITE => 4,
+        1 | 4 => OPERANDS,
+        3 | 11..=15 => 8,
+        2 | 6..=9 => 4,
         _ => 0,
     }
 }
 
-// What is cut short: no operation has the number 0.
-fn broken() -> Call {
-    Call {
-        operation: 0,
-        first: 0,
-        second: 0,
-        third: 0,
-    }
+// The call of an operation with these operands, 0 for those that it does not have.
+fn call_of(operation: u32, operands: &[u8; OPERANDS]) -> Command {
+    let first = number_at(operands, 0);
+    let second = number_at(operands, 4);
+    let third = number_at(operands, 8);
+    let place = first;
+    let call = match operation {
+        1 => Call::Load(Load {
+            place,
+            rater: second,
+            length: third as usize,
+        }),
+        2 => Call::Clear { place },
+        3 => Call::Pool {
+            place,
+            length: second as usize,
+        },
+        4 => Call::Cheapest {
+            place,
+            u: second,
+            v: third,
+        },
+        5 => Call::Compare,
+        6 => Call::Measures { place },
+        7 => Call::Brier { place },
+        8 => Call::Spread { place },
+        9 => Call::Write {
+            length: first as usize,
+        },
+        10 => Call::CompareShares,
+        11 => Call::Shortlist {
+            length: first as usize,
+            book_length: second as usize,
+        },
+        12 => Call::Book {
+            event: Event::SurvivorEnters,
+            place,
+            grade: second,
+        },
+        13 => Call::Book {
+            event: Event::SurvivorLeaves,
+            place,
+            grade: second,
+        },
+        14 => Call::Book {
+            event: Event::SurvivorDefaults,
+            place,
+            grade: second,
+        },
+        15 => Call::Book {
+            event: Event::DefaultedRemoved,
+            place,
+            grade: second,
+        },
+        _ => return Command::Broken,
+    };
+    Command::Call(call)
 }
 
-// Reads until the buffer is full or the input ends: how many bytes stand at the start of the buffer.
+// Reads until the buffer is full or the input ends: how many bytes stand at the start of the buffer. A `while`, since a read says where the next one
+// begins; std's `read_exact` does not say how many bytes came.
 pub fn read_full<R: Read>(input: &mut R, buffer: &mut [u8]) -> io::Result<usize>
     ensures { IfOk result (λ n. n ≤ length buffer.new) }
 {
@@ -108,20 +162,6 @@ pub fn read_full<R: Read>(input: &mut R, buffer: &mut [u8]) -> io::Result<usize>
     Ok(done)
 }
 
-fn call_of<R: Read>(input: &mut R, operation: u32) -> io::Result<Call> {
-    let mut bytes = [0u8; OPERANDS];
-    let size = operands_size(operation);
-    if read_full(input, &mut bytes[..size])? < size {
-        return Ok(broken());
-    }
-    Ok(Call {
-        operation,
-        first: number_at(&bytes, 0),
-        second: number_at(&bytes, 4),
-        third: number_at(&bytes, 8),
-    })
-}
-
 pub fn next<R: Read>(input: &mut R) -> io::Result<Command> {
     let mut bytes = [0u8; OPERANDS];
     let got = read_full(input, &mut bytes[..4])?;
@@ -129,7 +169,13 @@ pub fn next<R: Read>(input: &mut R) -> io::Result<Command> {
         return Ok(Command::Finished);
     }
     if got < 4 {
-        return Ok(Command::Call(broken()));
+        return Ok(Command::Broken);
     }
-    Ok(Command::Call(call_of(input, number_at(&bytes, 0))?))
+    let operation = number_at(&bytes, 0);
+    let mut operands = [0u8; OPERANDS];
+    let size = operands_size(operation);
+    if read_full(input, &mut operands[..size])? < size {
+        return Ok(Command::Broken);
+    }
+    Ok(call_of(operation, &operands))
 }

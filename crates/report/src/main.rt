@@ -5,12 +5,11 @@
 ghost use Rattle.std.specs.Prelude.{◌≤◌};
 ghost use Rattle.desk.specs.Desk.{SoundDesk};
 
-use calls::MeasuresAnswer;
-use desk::{Ack, Desk};
+use desk::Desk;
 use measures::SignedFraction;
 use pooling::NUMBERS;
 use print::{number, signed, text};
-use refusals::BOOK_LENGTH;
+use refusals::Refusal;
 use std::io;
 use std::io::{BufWriter, Read, Write};
 use table::{GRADES, Obligors, obligors_at};
@@ -18,13 +17,14 @@ use table::{GRADES, Obligors, obligors_at};
 // The longest book that it takes, in bytes.
 const INPUT: usize = 8_192;
 
+// Text goes out by `print`, whose contracts say which bytes are written.
 fn labelled<W: Write>(out: &mut W, label: &[u8], n: u64) -> io::Result<()> {
     text(out, label)?;
     number(out, n)
 }
 
-fn refused<W: Write>(out: &mut W, n: u32) -> io::Result<()> {
-    labelled(out, b"refused ", n as u64)?;
+fn refused<W: Write>(out: &mut W, refusal: Refusal) -> io::Result<()> {
+    labelled(out, b"refused ", refusal.number() as u64)?;
     text(out, b"\n")
 }
 
@@ -64,28 +64,35 @@ fn fraction<W: Write>(out: &mut W, f: SignedFraction) -> io::Result<()> {
     text(out, b"\n")
 }
 
-fn gini<W: Write>(out: &mut W, desk: Desk) -> io::Result<()>
-    requires { SoundDesk desk }
+fn gini<W: Write>(out: &mut W, desk: &Desk) -> io::Result<()>
+    requires { SoundDesk desk.now }
 {
     text(out, b"gini ")?;
     match desk.measures(1) {
-        MeasuresAnswer::Measures(m) => fraction(out, m.gini),
-        MeasuresAnswer::Refused(n) => refused(out, n),
+        Ok(m) => fraction(out, m.gini),
+        Err(refusal) => refused(out, refusal),
+    }
+}
+
+// The lines of a desk whose place 1 is loaded.
+fn loaded<W: Write>(out: &mut W, desk: &Desk) -> io::Result<()>
+    requires { SoundDesk desk.now }
+{
+    let mut pooled = [0u32; NUMBERS * GRADES];
+    match desk.pool(1, &mut pooled) {
+        Ok(()) => {
+            grades(out, pooled, desk.first.place.grades)?;
+            gini(out, desk)
+        }
+        Err(refusal) => refused(out, refusal),
     }
 }
 
 fn report<W: Write>(out: &mut W, book: &[u8]) -> io::Result<()> {
-    let stored = Desk::empty().load(1, book, 1);
-    let desk = stored.desk;
-    let ack = stored.ack;
-    match ack {
-        Ack::Done => {
-            let mut pooled = [0u32; NUMBERS * GRADES];
-            desk.pool(1, &mut pooled);
-            grades(out, pooled, desk.first.place.grades)?;
-            gini(out, desk)
-        }
-        Ack::Refused(n) => refused(out, n),
+    let mut desk = Desk::empty();
+    match desk.load(1, book, 1) {
+        Ok(()) => loaded(out, &desk),
+        Err(refusal) => refused(out, refusal),
     }
 }
 
@@ -94,7 +101,7 @@ fn main(rt: HostRuntime) -> io::Result<()> {
     let mut input = Vec::new(rt.alloc());
     let n = rt.stdin().take(INPUT as u64 + 1).read_to_end(&mut input)?;
     if INPUT < n {
-        refused(&mut out, BOOK_LENGTH)?;
+        refused(&mut out, Refusal::BookLength)?;
     } else {
         report(&mut out, &input)?;
     }

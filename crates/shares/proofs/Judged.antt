@@ -2,7 +2,6 @@
 -- break-even price is above, is at most 2,500,000,000, and the counts in the weights are small enough to be searched.
 use Prim.Native.Nat.{ℕ, ◌+◌, ◌*◌, ◌≤◌}
 use mathlib.Core.Path.{◌≡◌, ap, ◌∙◌}
-use mathlib.Core.List.{List}
 use mathlib.Core.Logic.Iff
 use native.Mathlib.Nat.{mul-le-mul}
 use native.Mathlib.Omega.{arith}
@@ -12,14 +11,13 @@ use Rattle.table.specs.declared.Totals.{Totals}
 use Rattle.table.specs.Counts.{totals_of_lem}
 use Rattle.table.proofs.Arithmetic.{rearrange}
 use Rattle.table.proofs.Sums.{obligors_split}
-use Rattle.pooling.specs.Private.{spanning, block_words}
 use Rattle.cutoff.specs.Verdict.{never_dearer_lem}
-use Rattle.cutoff.specs.Sweep.{in_weights, Matched}
+use Rattle.cutoff.specs.Sweep.{in_weights, Matched, DearerInWeights, IsVerdictInWeights}
 use Rattle.cutoff.specs.declared.Price.{Price}
 use Rattle.cutoff.specs.declared.Verdict.{Verdict}
 use Rattle.cutoff.specs.declared.Weights.{Weights}
 use Rattle.cutoff.proofs.Cost.{cheapest_is}
-use Rattle.cutoff.proofs.Judged.{DearerInWeights, IsVerdictInWeights, Weighable, Judges}
+use Rattle.cutoff.proofs.Judged.{Weighable, Judges}
 use Rattle.cutoff.proofs.Settled.{never-dearer}
 use Rattle.cutoff.proofs.Weighted.{weighted_counted}
 use Rattle.shares.specs.Verdict.{DearerByShares, never_dearer_by_shares, IsVerdictByShares}
@@ -61,11 +59,9 @@ module _ (t₁ t₂ : Table) (shareable₁ : Shareable t₁) (shareable₂ : Sha
 
   weighable : Weighable (table_weights t₂) (table_weights t₁) t₁
   weighable = record {
-    some_defaults = shareable₂.mixed.defaulted;
-    some_survivors = shareable₂.mixed.survived;
+    positive = (shareable₂.mixed.defaulted, shareable₂.mixed.survived);
     light = (omega (arith, few_obligors t₂ shareable₂), omega (arith, few_obligors t₂ shareable₂));
-    few_missed = omega (arith, few_pairs t₁ shareable₁);
-    few_turned_away = omega (arith, few_pairs t₁ shareable₁);
+    small = (omega (arith, few_pairs t₁ shareable₁), omega (arith, few_pairs t₁ shareable₁));
   }
 
   -- The verdict.
@@ -112,14 +108,12 @@ unfolding totals_of_lem
 weights_are h = h.weights ∙ ap total_weights h.totals
 
 module _ {w₁ w₂ : Weights} {n₁ n₂ : Totals} {t₁ t₂ : Table} (one : Holds w₂ n₁ t₁) (two : Holds w₁ n₂ t₂) where
-  pub judges : {first second : List ℕ} → first ≡ block_words (spanning t₁) → second ≡ block_words (spanning t₂) → Judges w₁ w₂ t₁ t₂ first second
-  judges e f =
+  pub judges : Judges w₁ w₂ t₁ t₂
+  judges =
       rw (weights_are one, weights_are two)
       (record {
         sound₁ = one.shareable.sound;
         sound₂ = two.shareable.sound;
-        words₁ = e;
-        words₂ = f;
         ok₁ = weighable t₁ t₂ one.shareable two.shareable;
         ok₂ = weighable t₂ t₁ two.shareable one.shareable;
         matched = matched t₁ t₂ one.shareable two.shareable;

@@ -9,23 +9,22 @@ ghost use Rattle.shares.specs.Judge.{Shareable, total_weights};
 ghost use Rattle.shares.specs.Verdict.{IsVerdictByShares};
 ghost use Rattle.shares.specs.Claims.{Claims};
 
-use cutoff::{Verdict, Weights, where_dearer};
+use cutoff::{Scale, Verdict, Weights, judge_scales};
 use pooled_place::listed_blocks;
-use pooling::BLOCKS;
+use pooling::Blocks;
 use table::Totals;
 
 // The most obligors of a table that is compared on shares.
 pub const OBLIGORS_ON_SHARES: u32 = 100_000;
 
 // A table's totals as the weights of the other. Times D1 S1 D2 S2 a cutoff's cost on shares is its cost on counts that are so weighted, at the
-// prices u S1 S2 and v D1 D2.
+// prices u S1 S2 and v D1 D2. No `From`, since neither type is of this crate.
 fn weights_of(t: Totals) -> Weights
     ensures { result ≡ total_weights t }
 {
-    let survivors = t.survivors;
     Weights {
         defaults: t.defaults,
-        survivors,
+        survivors: t.survivors,
     }
 }
 
@@ -41,17 +40,19 @@ pub fn judge(first: &[u32], totals1: Totals, second: &[u32], totals2: Totals) ->
 {
     let weights1 = weights_of(totals2);
     let weights2 = weights_of(totals1);
-    let mut ours = [0u32; BLOCKS];
-    let ours_from = listed_blocks(first, &mut ours);
-    let mut theirs = [0u32; BLOCKS];
-    let theirs_from = listed_blocks(second, &mut theirs);
-    let our_blocks = &ours[ours_from..];
-    let their_blocks = &theirs[theirs_from..];
-    let first_found = where_dearer(our_blocks, weights1, their_blocks, weights2);
-    let second_found = where_dearer(their_blocks, weights2, our_blocks, weights1);
-    let first_dearer = first_found.at_break_even(weights2);
-    let second_dearer = second_found.at_break_even(weights1);
-    Verdict::of(first_dearer, second_dearer)
+    let mut ours = Blocks::none();
+    listed_blocks(first, &mut ours);
+    let mut theirs = Blocks::none();
+    listed_blocks(second, &mut theirs);
+    let first_scale = Scale {
+        blocks: ours.as_slice(),
+        weights: weights1,
+    };
+    let second_scale = Scale {
+        blocks: theirs.as_slice(),
+        weights: weights2,
+    };
+    judge_scales(first_scale, second_scale)
 }
 
 // What is claimed of the comparison on shares: the function does nothing, its contract is all claims of this crate.

@@ -10,15 +10,16 @@ use Rattle.table.specs.Table.{Table, Sound, defaults_in, survivors_in}
 use Rattle.table.proofs.Arithmetic.{counts_le}
 use Rattle.table.proofs.Sums.{obligors_split}
 use Rattle.shorter.specs.Cut.{coarse_difference, IsBestCut}
-use Rattle.shorter.specs.declared.Size.{Size}
-use Rattle.shorter.specs.Private.{survived_from, defaulted_from, Sums, Falling, gain, most, through, first_end}
-use Rattle.shorter.specs.Private.{InRange, Needed, Values, Choices, ends_in, Leads}
+use Rattle.shorter.specs.declared.sizes.Size.{Size}
+use Rattle.shorter.specs.declared.Sums.{Sums}
+use Rattle.shorter.specs.Private.{survived_from, defaulted_from, SumsOf, Falling, gain, most, through, first_end}
+use Rattle.shorter.specs.Private.{Needed, Values, ChoicesOf, ends_in, Leads}
 use Rattle.shorter.proofs.Worth.{Gains, split}
 use Rattle.shorter.proofs.Search.{ends_of, top, reached}
 use Rattle.shorter.proofs.Found.{best_cut, best-value}
 use Rattle.shorter.proofs.Rows.{most_le}
 
-module _ {t : Table} {w : List ℕ} (sound : Sound t) (sums : Sums t w) where
+module _ {t : Table} {w : List Sums} (sound : Sound t) (sums : SumsOf t w) where
   pub falling : Falling w (length t)
   unfolding survivors_in defaults_in
   falling =
@@ -39,7 +40,7 @@ module _ {t : Table} {w : List ℕ} (sound : Sound t) (sums : Sums t w) where
   pairs = rw (sums.survived 0 (omega arith), sums.defaulted 0 (omega arith))
 
 -- The choices lead to the ends that the search finds.
-module _ {w : List ℕ} {z : Size} {c : List ℕ} (few : z.grades ≤ 40) (choices : Choices w z (z.runs - 1) c) where
+module _ {w : List Sums} {z : Size} {c : List (List ℕ)} (choices : ChoicesOf w z (z.runs - 1) c) where
   pub record Led (j i : ℕ) : Type 0 where
     pub leads : Leads c j i
     pub ends : ends_in c z.grades j i ≡ ends_of (gain w) z.grades j i
@@ -56,26 +57,25 @@ module _ {w : List ℕ} {z : Size} {c : List ℕ} (few : z.grades ≤ 40) (choic
         first = λ x. absurd (omega arith);
       }) in
       record {
-        leads = (omega (arith, need.behind), rw e (omega (arith, t.to)), rw e r.leads);
+        leads = (omega (arith, need.behind), omega (arith, need.behind), rw e (omega (arith, t.to)), rw e r.leads);
         ends = rw (e, r.ends);
       }
 
 -- the first run
-pub first : (z : Size) → InRange z → Needed z (z.runs - 1) 0
-first z h = record { before = omega arith; behind = omega arith; first = λ x. refl }
+pub first : (z : Size) → Needed z (z.runs - 1) 0
+first z = record { before = omega arith; behind = omega arith; first = λ x. refl }
 
 -- What is known once the rows are filled.
-pub record Searched (t : Table) (w : List ℕ) (z : Size) (v c : List ℕ) : Type 0 where
+pub record Searched (t : Table) (w : List Sums) (z : Size) (v : List ℕ) (c : List (List ℕ)) : Type 0 where
   pub sound : Sound t
-  pub sums : Sums t w
+  pub sums : SumsOf t w
   pub is : z.grades ≡ length t
-  pub range : InRange z
   pub values : Values w z (z.runs - 1) v
-  pub choices : Choices w z (z.runs - 1) c
+  pub choices : ChoicesOf w z (z.runs - 1) c
 
-module _ {t : Table} {w : List ℕ} {z : Size} {v c : List ℕ} (h : Searched t w z v c) where
-  here : Led h.range.2 h.choices (z.runs - 1) 0
-  here = led h.range.2 h.choices (z.runs - 1) 0 (omega (arith, h.range)) (first z h.range)
+module _ {t : Table} {w : List Sums} {z : Size} {v : List ℕ} {c : List (List ℕ)} (h : Searched t w z v c) where
+  here : Led h.choices (z.runs - 1) 0
+  here = led h.choices (z.runs - 1) 0 (omega arith) (first z)
 
   pub leads : Leads c (z.runs - 1) 0
   leads = here.leads
@@ -83,7 +83,7 @@ module _ {t : Table} {w : List ℕ} {z : Size} {v c : List ℕ} (h : Searched t 
   pub small_value : get_or v 0 0 ≤ 2_000_000_000_000
   small_value =
       let f : Falling w z.grades = rw h.is (falling h.sound h.sums) in
-      omega (arith, h.values.at 0 (first z h.range), most_le f (z.runs - 1) 0 (omega (arith, h.range)), f.few_survived 0 (omega arith))
+      omega (arith, h.values.at 0 (first z), most_le f (z.runs - 1) 0 (omega arith), f.few_survived 0 (omega arith))
 
   pub small_pairs : defaulted_from w 0 * survived_from w 0 ≤ 1_000_000_000_000
   small_pairs = let f = falling h.sound h.sums in counts_le (f.few_defaulted 0 (omega arith)) (f.few_survived 0 (omega arith))
@@ -92,10 +92,10 @@ module _ {t : Table} {w : List ℕ} {z : Size} {v c : List ℕ} (h : Searched t 
   ends_are = here.ends ∙ rw h.is
 
   runs_are : suc (z.runs - 1) ≡ z.runs
-  runs_are = omega (arith, h.range)
+  runs_are = omega arith
 
   length_ends : length (ends_in c z.grades (z.runs - 1) 0) ≡ z.runs
-  length_ends = rw ends_are ((reached (gain w) (length t) (z.runs - 1) 0 (omega (arith, h.is, h.range))).runs ∙ runs_are)
+  length_ends = rw ends_are ((reached (gain w) (length t) (z.runs - 1) 0 (omega (arith, h.is))).runs ∙ runs_are)
 
   module _ (out₀ : List ℕ) {out : List ℕ} (e : out ≡ ends_in c z.grades (z.runs - 1) 0 ++ out₀) where
     first_ends : take z.runs out ≡ ends_of (gain w) (length t) (z.runs - 1) 0
@@ -104,13 +104,13 @@ module _ {t : Table} {w : List ℕ} {z : Size} {v c : List ℕ} (h : Searched t 
     pub best : IsBestCut t z.runs (take z.runs out)
     best =
         rw first_ends
-        (rw runs_are at (best_cut t h.sound.counted (gain w) (gains h.sound h.sums) (z.runs - 1) (omega (arith, h.is, h.range))))
+        (rw runs_are at (best_cut t h.sound.counted (gain w) (gains h.sound h.sums) (z.runs - 1) (omega (arith, h.is))))
 
     pub value : sub_ℕ (get_or v 0 0) (defaulted_from w 0 * survived_from w 0) ≡ coarse_difference t (take z.runs out)
     value =
-        let worth : get_or v 0 0 ≡ most (gain w) (length t) (z.runs - 1) 0 = h.values.at 0 (first z h.range) ∙ rw h.is in
+        let worth : get_or v 0 0 ≡ most (gain w) (length t) (z.runs - 1) 0 = h.values.at 0 (first z) ∙ rw h.is in
         rw (first_ends, worth, pairs h.sound h.sums)
-        (sym (best-value t h.sound.counted (gain w) (gains h.sound h.sums) (z.runs - 1) (omega (arith, h.is, h.range))))
+        (sym (best-value t h.sound.counted (gain w) (gains h.sound h.sums) (z.runs - 1) (omega (arith, h.is))))
 
     pub kept : drop z.runs out ≡ out₀
     kept = rw e (drop_at (ends_in c z.grades (z.runs - 1) 0) out₀ z.runs length_ends)

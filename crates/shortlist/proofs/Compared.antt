@@ -1,28 +1,17 @@
 -- Comparing a rater with those before it, turn by turn: after each turn what is left gives the marks that the whole gives.
-use Prim.Native.Nat.{ℕ, suc, ◌+◌, ◌-◌, ◌≤◌, ◌<◌}
-use mathlib.Core.Path.{◌≡◌, refl, sym}
+use Prim.Native.Nat.{ℕ, suc, ◌+◌, ◌-◌, ◌<◌}
+use mathlib.Core.Path.{◌≡◌, refl, sym, ◌∙◌, ap}
 use mathlib.Core.Bool.{Bool, true, false, not, ◌&&◌}
-use mathlib.Core.List.{List}
+use mathlib.Core.List.{List, [], map}
 use native.Mathlib.Numerals.{add-one}
 use native.Mathlib.Omega.{arith}
-use borrow.Author.Tests.{eq-eqb, ne_eqb}
-use lib.ListN.{get_or, set}
+use lib.ListN.{length, get_or, set}
+use Rattle.std.proofs.lemmas.List.{get_or-map}
 use Rattle.cutoff.specs.Verdict.{never_dearer_lem}
-use Rattle.shortlist.specs.Private.{scale_at, Searchable, beats, winner_of, compared}
+use Rattle.shortlist.specs.Private.{table_held, Comparable, Searchable, beats, winner_of, compared}
+use Rattle.shortlist.specs.declared.scales.Scale.{Scale}
 use Rattle.shortlist.specs.declared.beaten.Winner.{Winner}
 use Rattle.shortlist.specs.declared.beaten.Winner.TheVariants.{First, Second, Neither}
-
--- Fewer raters can be searched, too.
-pub fewer : {held : List ℕ} {n : ℕ} → Searchable held n → (m : ℕ) → m ≤ n → Searchable held m
-fewer s m h =
-    record {
-      few = omega (arith, s.few);
-      long = s.long;
-      inside = λ r l. s.inside r (omega arith);
-      sweepable = λ r l. s.sweepable r (omega arith);
-      same_defaults = λ q r l k. s.same_defaults q r (omega arith) (omega arith);
-      same_survivors = λ q r l k. s.same_survivors q r (omega arith) (omega arith);
-    }
 
 -- The winner says who beats whom.
 
@@ -48,36 +37,59 @@ second_is true false = refl
 second_is false true = refl
 second_is false false = refl
 
-module _ (held : List ℕ) (i j : ℕ) {w : Winner}
-    (e : w ≡ winner_of (never_dearer_lem (scale_at held i) (scale_at held j)) (never_dearer_lem (scale_at held j) (scale_at held i))) where
-  pub first_beats : beats held i j ≡ is_first w
-  first_beats = rw e (sym (first_is (never_dearer_lem (scale_at held i) (scale_at held j)) (never_dearer_lem (scale_at held j) (scale_at held i))))
+-- The scale of rater i, as the code takes it.
+scale_at : (held : List Scale) (i : ℕ) (s : Scale) → i < length held → s ≡ get_or held i s → get_or (map table_held held) i [] ≡ table_held s
+scale_at held i s l e = get_or-map table_held held i s [] l ∙ ap table_held (sym e)
 
-  pub second_beats : beats held j i ≡ is_second w
-  second_beats = rw e (sym (second_is (never_dearer_lem (scale_at held i) (scale_at held j)) (never_dearer_lem (scale_at held j) (scale_at held i))))
+module _ (held : List Scale) (i j : ℕ) {first second : Scale} (p : i < length held) (q : j < length held)
+    (e : first ≡ get_or held i first) (f : second ≡ get_or held j second) {w : Winner}
+    (g : w ≡ winner_of (never_dearer_lem (table_held first) (table_held second)) (never_dearer_lem (table_held second) (table_held first))) where
+  first_beats : beats held i j ≡ is_first w
+  first_beats =
+      rw (scale_at held i first p e, scale_at held j second q f, g)
+      (sym (first_is (never_dearer_lem (table_held first) (table_held second)) (never_dearer_lem (table_held second) (table_held first))))
+
+  second_beats : beats held j i ≡ is_second w
+  second_beats =
+      rw (scale_at held i first p e, scale_at held j second q f, g)
+      (sym (second_is (never_dearer_lem (table_held first) (table_held second)) (never_dearer_lem (table_held second) (table_held first))))
 
 -- A turn.
 
 -- the marks once j is compared with those from i on, too
-abbrev from : (ℕ → ℕ → Bool) → ℕ → ℕ → List ℕ → List ℕ
-from beats j i marks = compared beats j (j - i) i marks
+abbrev from : (ℕ → ℕ → Bool) → ℕ → ℕ → List Bool → List Bool
+from beats j i beaten = compared beats j (j - i) i beaten
 
 -- the same, by the winner of i and j
-abbrev pub won_by : (ℕ → ℕ → Bool) → ℕ → ℕ → List ℕ → Winner → List ℕ
-won_by beats j i marks First = set marks j 1
-won_by beats j i marks Second = from beats j (i + 1) (set marks i 1)
-won_by beats j i marks Neither = from beats j (i + 1) marks
+abbrev pub won_by : (ℕ → ℕ → Bool) → ℕ → ℕ → List Bool → Winner → List Bool
+won_by beats j i beaten First = set beaten j true
+won_by beats j i beaten Second = from beats j (i + 1) (set beaten i true)
+won_by beats j i beaten Neither = from beats j (i + 1) beaten
 
-module _ (beats : ℕ → ℕ → Bool) (j i : ℕ) (marks : List ℕ) (l : i < j) where
+module _ (beats : ℕ → ℕ → Bool) (j i : ℕ) (beaten : List Bool) (l : i < j) where
   left : j - i ≡ suc (j - suc i)
   left = omega arith
 
-  pub skipped : (get_or marks i 0 ≡ 0 → ⊥) → from beats j (i + 1) marks ≡ from beats j i marks
+  pub skipped : get_or beaten i false ≡ true → from beats j (i + 1) beaten ≡ from beats j i beaten
   unfolding compared
-  skipped h = rw (add-one i, left, ne_eqb (get_or marks i 0) 0 h)
+  skipped h = rw (add-one i, left, h)
 
-  pub won : get_or marks i 0 ≡ 0 → (w : Winner) → beats i j ≡ is_first w → beats j i ≡ is_second w → won_by beats j i marks w ≡ from beats j i marks
+  won : get_or beaten i false ≡ false → (w : Winner) → beats i j ≡ is_first w → beats j i ≡ is_second w → won_by beats j i beaten w ≡ from beats j i beaten
   unfolding compared
-  won z First a b = rw (left, eq-eqb (get_or marks i 0) 0 z, a)
-  won z Second a b = rw (add-one i, left, eq-eqb (get_or marks i 0) 0 z, a, b)
-  won z Neither a b = rw (add-one i, left, eq-eqb (get_or marks i 0) 0 z, a, b)
+  won z First a b = rw (left, z, a)
+  won z Second a b = rw (add-one i, left, z, a, b)
+  won z Neither a b = rw (add-one i, left, z, a, b)
+
+-- Raters i and j are compared, and w is the winner.
+pub turned : (held : List Scale) (j i : ℕ) (beaten : List Bool) (l : i < j) (m : j < length held) {first second : Scale}
+    → first ≡ get_or held i first → second ≡ get_or held j second → get_or beaten i false ≡ false → (w : Winner)
+    → w ≡ winner_of (never_dearer_lem (table_held first) (table_held second)) (never_dearer_lem (table_held second) (table_held first))
+    → won_by (beats held) j i beaten w ≡ from (beats held) j i beaten
+turned held j i beaten l m e f z w g =
+    won (beats held) j i beaten l z w (first_beats held i j (omega arith) m e f g) (second_beats held i j (omega arith) m e f g)
+
+-- Two of the scales, as the code takes them, can be compared.
+pub comparable : {held : List Scale} → Searchable held → (i j : ℕ) → i < length held → j < length held
+    → {first second : Scale} → first ≡ get_or held i first → second ≡ get_or held j second → Comparable first second
+comparable {held} s i j p q {first} {second} e f =
+    rw (← e, ← f) at (s.comparable i j first second p q)

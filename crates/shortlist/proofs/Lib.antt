@@ -10,7 +10,9 @@ pub mod Totals
 pub mod Pooled
 pub mod Accepted
 pub mod Books
+pub mod Searched
 pub mod Answered
+pub mod Loaded
 pub mod Ended
 pub mod Writing
 pub mod Compared

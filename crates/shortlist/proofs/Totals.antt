@@ -1,5 +1,5 @@
--- The checks of the totals go by each table beside the first: the smallest of the tables' faults is that of all checks in their order.
-use Prim.Native.Nat.{ℕ}
+-- The checks of the totals ask of each table whether it has defaults, survivors, and the totals of the first; so do the tests of the scales.
+use Prim.Native.Nat.{ℕ, ◌≤◌}
 use mathlib.Core.Path.{◌≡◌, refl, sym, subst, ◌∙◌}
 use mathlib.Core.Bool.{Bool, true, false, not, cond, ◌||◌}
 use mathlib.Core.List.{List, [], ◌∷◌, ◌++◌}
@@ -7,20 +7,21 @@ use native.Mathlib.Omega.{arith}
 use native.Mathlib.Decide.{dec_le, ℕ_discrete}
 use borrow.Author.Tests.{eq-eqb, ne_eqb, le-leb, lt-leb}
 use lib.Dec.{eqb}
+use lib.ListN.{length}
+use Rattle.std.specs.List.{list_any}
 use Rattle.table.specs.Table.{Table, Every, defaults_in, survivors_in}
 use Rattle.book.specs.Checks.{Check, fault, first_fault}
-use Rattle.shortlist.specs.declared.scales.HeldTotals.{HeldTotals}
 use Rattle.shortlist.specs.Checks.{some_checks, equal_checks, same_checks, totals_fault_lem}
-use Rattle.shortlist.specs.Private.{fault_beside_lem, sooner_of}
+use Rattle.shortlist.specs.Private.{Holds, HoldsAll, no_defaults, no_survivors, other_totals, fault_by, held_totals_fault}
+use Rattle.shortlist.specs.declared.scales.Scale.{Scale}
 
 module _ (count : Table → ℕ) where
   -- some table has none
-  unfoldable none : List Table → Bool
-  none [] = false
-  none (t ∷ ts) = eqb (count t) 0 || none ts
+  abbrev none : List Table → Bool
+  none = list_any (λ t. eqb (count t) 0)
 
   some_fault : (number : ℕ) (ts : List Table) → fault (some_checks count number ts) ≡ cond (none ts) number 0
-  unfolding none some_checks fault
+  unfolding some_checks fault
   some_fault number [] = refl
   some_fault number (t ∷ ts) =
       elim (dec_le 1 (count t)) [
@@ -29,9 +30,8 @@ module _ (count : Table → ℕ) where
       ]
 
   -- some table has not n
-  unfoldable differ : ℕ → List Table → Bool
-  differ n [] = false
-  differ n (t ∷ ts) = not (eqb (count t) n) || differ n ts
+  abbrev differ : ℕ → List Table → Bool
+  differ n = list_any (λ t. not (eqb (count t) n))
 
   abbrev All : ℕ → List Table → Type 0
   All n ts = Every (λ t. n ≡ count t) ts
@@ -48,7 +48,7 @@ module _ (count : Table → ℕ) where
 
   equal_fault : (n : ℕ) (ts : List Table) (more : List Check) → (All n ts → fault more ≡ 0)
       → fault (equal_checks count n ts ++ more) ≡ cond (differ n ts) 25 0
-  unfolding equal_checks fault differ
+  unfolding equal_checks fault
   equal_fault n [] more h = h tt
   equal_fault n (t ∷ ts) more h =
       elim (ℕ_discrete n (count t)) [
@@ -58,42 +58,9 @@ module _ (count : Table → ℕ) where
 
   -- Any two have as many exactly if all have as many as the first.
   same_fault : (t : Table) (ts : List Table) → fault (same_checks count (t ∷ ts)) ≡ cond (differ (count t) (t ∷ ts)) 25 0
-  unfolding same_checks differ
+  unfolding same_checks
   same_fault t ts =
       rw (eq-eqb (count t) (count t) refl) (equal_fault (count t) ts (same_checks count ts) (λ h. sym (level_same (count t) ts h)))
-
--- The tests of all.
-
--- the fault where these tell whether there is one without defaults, without survivors, and with other ones than the first
-abbrev fault_by : Bool → Bool → Bool → ℕ
-fault_by no-defaults no-survivors other = cond no-defaults 23 (cond no-survivors 24 (cond other 25 0))
-
-sooner_by : (a b c x y z : Bool) → sooner_of (fault_by a b c) (fault_by x y z) ≡ fault_by (a || x) (b || y) (c || z)
-unfolding sooner_of
-sooner_by true b c true y z = refl
-sooner_by true b c false true z = refl
-sooner_by true b c false false true = refl
-sooner_by true b c false false false = refl
-sooner_by false true c true y z = refl
-sooner_by false true c false true z = refl
-sooner_by false true c false false true = refl
-sooner_by false true c false false false = refl
-sooner_by false false true true y z = refl
-sooner_by false false true false true z = refl
-sooner_by false false true false false true = refl
-sooner_by false false true false false false = refl
-sooner_by false false false x y z = refl
-
-either : (c d : Bool) → ◌≡◌ {A = ℕ} (cond c (cond d 0 25) 25) (cond (not c || not d) 25 0)
-either true true = refl
-either true false = refl
-either false d = refl
-
-exchange : (a b c d : Bool) → ((a || b) || (c || d)) ≡ ((a || c) || (b || d))
-exchange true b c d = refl
-exchange false true true d = refl
-exchange false true false d = refl
-exchange false false c d = refl
 
 in_order : (a b c d : Bool) → first_fault (cond a 23 0) (first_fault (cond b 24 0) (first_fault (cond c 25 0) (cond d 25 0))) ≡ fault_by a b (c || d)
 unfolding first_fault
@@ -102,35 +69,41 @@ in_order false true c d = refl
 in_order false false true d = refl
 in_order false false false d = refl
 
--- a table's totals
-abbrev pub totals_of_table : Table → HeldTotals
-totals_of_table t = record { defaults = defaults_in t; survivors = record { 0 = survivors_in t } }
+-- The scales.
 
--- the smallest fault of some tables beside the first
-unfoldable pub faults_of : HeldTotals → List Table → ℕ
-faults_of first [] = 0
-faults_of first (t ∷ ts) = sooner_of (fault_beside_lem first (totals_of_table t)) (faults_of first ts)
+-- What is asked of a scale is asked of its table.
+any_held : (f : Scale → Bool) (g : Table → Bool) → ((s : Scale) (t : Table) → Holds s t → f s ≡ g t) → (held : List Scale) (ts : List Table) → HoldsAll held ts
+    → list_any f held ≡ list_any g ts
+any_held f g e [] [] h = refl
+any_held f g e [] (t ∷ ts) h = absurd h
+any_held f g e (s ∷ held) [] h = absurd h
+any_held f g e (s ∷ held) (t ∷ ts) h = rw (e s t h.0, any_held f g e held ts h.1)
 
-faults_by : (first : HeldTotals) (ts : List Table)
-    → faults_of first ts
-    ≡ fault_by (none defaults_in ts) (none survivors_in ts)
-    (differ defaults_in first.defaults ts || differ survivors_in first.survivors.0 ts)
-unfolding faults_of fault_beside_lem none differ
-faults_by first [] = refl
-faults_by first (t ∷ ts) =
-    let c = eqb (defaults_in t) first.defaults in
-    let d = eqb (survivors_in t) first.survivors.0 in
-    rw (
-      either c d,
-      faults_by first ts,
-      exchange (not c) (differ defaults_in first.defaults ts) (not d) (differ survivors_in first.survivors.0 ts),
-    )
-    (sooner_by (eqb (defaults_in t) 0) (eqb (survivors_in t) 0) (not c || not d) (none defaults_in ts) (none survivors_in ts)
-    (differ defaults_in first.defaults ts || differ survivors_in first.survivors.0 ts))
+exchange : (a b c d : Bool) → ((a || b) || (c || d)) ≡ ((a || c) || (b || d))
+exchange true b c d = refl
+exchange false true true d = refl
+exchange false true false d = refl
+exchange false false c d = refl
 
-pub totals-fault : (t : Table) (ts : List Table) → faults_of (totals_of_table t) (t ∷ ts) ≡ totals_fault_lem (t ∷ ts)
-totals-fault t ts =
+any_or : (f g : Table → Bool) (ts : List Table) → list_any (λ t. f t || g t) ts ≡ (list_any f ts || list_any g ts)
+any_or f g [] = refl
+any_or f g (t ∷ ts) = rw (any_or f g ts) (exchange (f t) (g t) (list_any f ts) (list_any g ts))
+
+by_tests : {a b c x y z : Bool} → a ≡ x → b ≡ y → c ≡ z → fault_by a b c ≡ fault_by x y z
+by_tests p q r = rw (p, q, r) refl
+
+pub held_fault : (held : List Scale) (ts : List Table) → HoldsAll held ts → 1 ≤ length ts → held_totals_fault held ≡ totals_fault_lem ts
+held_fault [] [] h l = absurd (omega arith)
+held_fault [] (t ∷ ts) h l = absurd h
+held_fault (s ∷ held) [] h l = absurd h
+held_fault (s ∷ held) (t ∷ ts) h l =
     let all = t ∷ ts in
-    faults_by (totals_of_table t) all
+    let d = any_held no_defaults (λ t. eqb (defaults_in t) 0) (λ s t k. rw k.defaults refl) (s ∷ held) all h in
+    let v = any_held no_survivors (λ t. eqb (survivors_in t) 0) (λ s t k. rw k.survivors refl) (s ∷ held) all h in
+    let f = λ (x : Table). not (eqb (defaults_in x) (defaults_in t)) in
+    let g = λ (x : Table). not (eqb (survivors_in x) (survivors_in t)) in
+    let u = any_held (λ x. other_totals x s) (λ x. f x || g x) (λ x y k. rw (k.defaults, k.survivors, h.0.defaults, h.0.survivors) refl) (s ∷ held) all h
+    ∙ any_or f g all in
+    by_tests d v u
     ∙ sym (rw (some_fault defaults_in 23 all, some_fault survivors_in 24 all, same_fault defaults_in t ts, same_fault survivors_in t ts)
     (in_order (none defaults_in all) (none survivors_in all) (differ defaults_in (defaults_in t) all) (differ survivors_in (survivors_in t) all)))

@@ -1,12 +1,11 @@
 -- What the shortlist of a book answers, and the buffer after it: R-7's checks in their order.
 use Rattle.std.specs.Prelude.{ℕ, zero, suc, List, [], ◌∷◌, ◌++◌, length, drop}
 use Rattle.table.specs.Table.{Table, defaults_in, survivors_in}
+use Rattle.refusals.specs.Answers.{Answer, answer}
 use Rattle.book.specs.Checks.{Check, at_most, equal, fault, first_fault}
 use Rattle.book.specs.Layout.{raters}
 use Rattle.book.specs.Reading.{all_tables, book_fault}
 use Rattle.shortlist.specs.Shortlist.{listed}
-use Rattle.shortlist.specs.declared.Shortlisted.{Shortlisted}
-use Rattle.shortlist.specs.declared.Shortlisted.TheVariants.{Count, Refused}
 
 -- each of some tables has at least one of what is counted, or else the number
 unfoldable pub some_checks : (Table → ℕ) → ℕ → List Table → List Check
@@ -34,18 +33,14 @@ totals_fault_lem ts =
 unfoldable pub shortlist_fault : List ℕ → ℕ → ℕ
 shortlist_fault b n = first_fault (book_fault b) (first_fault (totals_fault_lem (all_tables b)) (fault (at_most (raters b) n 13 ∷ [])))
 
-unfoldable pub count_or : ℕ → List Table → Shortlisted
-count_or zero ts = Count (length (listed ts))
-count_or (suc n) ts = Refused (suc n)
-
 -- "into a lent buffer whose further numbers are kept", and all numbers where it is refused
 unfoldable pub buffer_or : ℕ → List Table → List ℕ → List ℕ
 buffer_or zero ts out = listed ts ++ drop (length (listed ts)) out
 buffer_or (suc n) ts out = out
 
 -- of a book and the length of a buffer: "return how many"
-abbrev pub shortlist_answer : List ℕ → ℕ → Shortlisted
-shortlist_answer b n = count_or (shortlist_fault b n) (all_tables b)
+abbrev pub shortlist_answer : List ℕ → ℕ → Answer ℕ
+shortlist_answer b n = answer (shortlist_fault b n) (length (listed (all_tables b)))
 
 abbrev pub buffer_after : List ℕ → List ℕ → List ℕ
 buffer_after b out = buffer_or (shortlist_fault b (length out)) (all_tables b) out

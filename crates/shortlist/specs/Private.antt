@@ -1,90 +1,75 @@
 -- Serves contracts of functions inside the library only: what is promised does not rest on it.
--- The pooled scales of a book's raters as the code holds them, the fault of their totals, and the marks of the raters that are beaten. Raters are
--- counted from 0 here.
-use Rattle.std.specs.Prelude.{ℕ, zero, suc, ◌-◌, ◌*◌, ◌≤◌, ◌<◌, min, ◌≡◌, Bool, true, false, cond, List, eqb, length, get_or, set, take, drop, replicate}
+-- The pooled scales of a book's raters as the code holds them, the fault of their totals, and which raters are marked as beaten. Raters are counted
+-- from 0 here.
+use Rattle.std.specs.Prelude.{ℕ, zero, suc, ◌≤◌, ◌<◌, ◌≡◌, Bool, true, false, not, cond, ◌||◌, List, [], ◌∷◌, eqb, map, length, get_or, set, take, replicate}
+use Rattle.std.specs.List.{list_any}
 use Rattle.table.specs.Table.{Table, defaults_in, survivors_in}
-use Rattle.pooling.specs.Private.{block_words, spanning}
-use Rattle.book.specs.Layout.{raters}
-use Rattle.book.specs.Rows.{table_of_rater}
+use Rattle.pooling.specs.Private.{listed, spanning}
 use Rattle.cutoff.specs.Sweep.{scale_in, Sweepable}
 use Rattle.shortlist.specs.Shortlist.{better, numbers_of_lem}
-use Rattle.shortlist.specs.declared.scales.HeldTotals.{HeldTotals}
+use Rattle.shortlist.specs.declared.scales.Scale.{Scale}
 use Rattle.shortlist.specs.declared.beaten.Winner.{Winner}
 use Rattle.shortlist.specs.declared.beaten.Winner.TheVariants.{First, Second, Neither}
 
 -- The scales.
 
--- Of each rater so many numbers are held: the words of its blocks, which end at 120, where they start, D and S.
-abbrev pub scale_size : ℕ
-scale_size = 123
+-- The scale s is that of a rater with this table.
+pub record Holds (s : Scale) (t : Table) : Type 0 where
+  pub blocks : listed s.blocks ≡ spanning t
+  pub defaults : s.totals.defaults ≡ defaults_in t
+  pub survivors : s.totals.survivors.0 ≡ survivors_in t
 
--- those of all raters that a book can have
-abbrev pub held_size : ℕ
-held_size = 1968
-
--- the numbers of rater r
-abbrev pub held_of : List ℕ → ℕ → List ℕ
-held_of held r = take scale_size (drop (scale_size * r) held)
-
--- of the numbers of a rater, the words of its blocks
-abbrev pub blocks_held : List ℕ → List ℕ
-blocks_held w = take (120 - get_or w 120 0) (drop (get_or w 120 0) w)
-
--- The numbers w are those of a rater with this table.
-pub record Holds (w : List ℕ) (t : Table) : Type 0 where
-  pub long : length w ≡ scale_size
-  pub inside : get_or w 120 0 ≤ 120
-  pub blocks : blocks_held w ≡ block_words (spanning t)
-  pub defaults : get_or w 121 0 ≡ defaults_in t
-  pub survivors : get_or w 122 0 ≡ survivors_in t
-
--- The scales of all raters of the book b are held.
-abbrev pub HoldsAll : List ℕ → List ℕ → Type 0
-HoldsAll b held = (r : ℕ) → r < raters b → Holds (held_of held r) (table_of_rater b (suc r))
+-- The scales are those of raters with these tables, in their order.
+abbrev pub HoldsAll : List Scale → List Table → Type 0
+HoldsAll [] [] = Unit {0}
+HoldsAll [] (t ∷ ts) = ⊥
+HoldsAll (s ∷ held) [] = ⊥
+HoldsAll (s ∷ held) (t ∷ ts) = Holds s t × HoldsAll held ts
 
 -- Their totals.
 
--- D and S of a rater, of its numbers
-abbrev pub totals_held : List ℕ → HeldTotals
-totals_held w = record { defaults = get_or w 121 0; survivors = record { 0 = get_or w 122 0 } }
+abbrev pub no_defaults : Scale → Bool
+no_defaults s = eqb s.totals.defaults 0
 
--- the first of 23, 24 and 25 that a rater with totals t has beside the first rater, 0 for none
-unfoldable pub fault_beside_lem : HeldTotals → HeldTotals → ℕ
-fault_beside_lem first t =
-    cond (eqb t.defaults 0) 23
-    (cond (eqb t.survivors.0 0) 24
-    (cond (eqb t.defaults first.defaults) (cond (eqb t.survivors.0 first.survivors.0) 0 25) 25))
+abbrev pub no_survivors : Scale → Bool
+no_survivors s = eqb s.totals.survivors.0 0
 
--- the smaller of two faults, 0 being none
-unfoldable pub sooner_of : ℕ → ℕ → ℕ
-sooner_of m n = cond (eqb m 0) n (cond (eqb n 0) m (min m n))
+-- D or S differ
+abbrev pub other_totals : Scale → Scale → Bool
+other_totals s first = not (eqb s.totals.defaults first.totals.defaults) || not (eqb s.totals.survivors.0 first.totals.survivors.0)
 
--- that of k raters, from rater r on
-unfoldable pub faults_from : List ℕ → HeldTotals → ℕ → ℕ → ℕ
-faults_from held first r zero = 0
-faults_from held first r (suc k) = sooner_of (fault_beside_lem first (totals_held (held_of held r))) (faults_from held first (suc r) k)
+-- some totals differ from the first
+abbrev pub unequal_totals : List Scale → Bool
+unequal_totals [] = false
+unequal_totals (first ∷ held) = list_any (λ s. other_totals s first) (first ∷ held)
 
-abbrev pub held_totals_fault : List ℕ → ℕ → ℕ
-held_totals_fault held n = faults_from held (totals_held (held_of held 0)) 0 n
+-- the number of the first test that fails, 0 for none
+abbrev pub fault_by : Bool → Bool → Bool → ℕ
+fault_by defaults survivors unequal = cond defaults 23 (cond survivors 24 (cond unequal 25 0))
+
+abbrev pub held_totals_fault : List Scale → ℕ
+held_totals_fault held = fault_by (list_any no_defaults held) (list_any no_survivors held) (unequal_totals held)
 
 -- Who is beaten.
 
--- the pooled scale of rater r
-abbrev pub scale_at : List ℕ → ℕ → Table
-scale_at held r = scale_in (blocks_held (held_of held r))
+-- the pooled scale that is held, as a table
+abbrev pub table_held : Scale → Table
+table_held s = scale_in (listed s.blocks)
 
--- What is known of the scales of n raters once their totals are checked.
-pub record Searchable (held : List ℕ) (n : ℕ) : Type 0 where
-  pub few : n ≤ 16
-  pub long : length held ≡ held_size
-  pub inside : (r : ℕ) → r < n → get_or (held_of held r) 120 0 ≤ 120
-  pub sweepable : (r : ℕ) → r < n → Sweepable (blocks_held (held_of held r))
-  pub same_defaults : (q r : ℕ) → q < n → r < n → defaults_in (scale_at held q) ≡ defaults_in (scale_at held r)
-  pub same_survivors : (q r : ℕ) → q < n → r < n → survivors_in (scale_at held q) ≡ survivors_in (scale_at held r)
+-- Two scales that can be compared.
+pub record Comparable (first second : Scale) : Type 0 where
+  pub sweepable : Sweepable (listed first.blocks) × Sweepable (listed second.blocks)
+  pub same_defaults : defaults_in (table_held first) ≡ defaults_in (table_held second)
+  pub same_survivors : survivors_in (table_held first) ≡ survivors_in (table_held second)
+
+-- What is known of the scales of all raters once their totals are checked: any two can be compared.
+pub record Searchable (held : List Scale) : Type 0 where
+  pub few : length held ≤ 16
+  pub comparable : (i j : ℕ) (s t : Scale) → i < length held → j < length held → Comparable (get_or held i s) (get_or held j t)
 
 -- Rater i is better than rater j.
-abbrev pub beats : List ℕ → ℕ → ℕ → Bool
-beats held i j = better (scale_at held i) (scale_at held j)
+abbrev pub beats : List Scale → ℕ → ℕ → Bool
+beats held i j = better (get_or (map table_held held) i []) (get_or (map table_held held) j [])
 
 -- which of two is better, by whether the first is never dearer than the second, and the second than the first
 abbrev pub winner_of : Bool → Bool → Winner
@@ -93,20 +78,24 @@ winner_of true false = First
 winner_of false true = Second
 winner_of false false = Neither
 
--- Marks, one for each rater: 1 for a beaten one. These are they once rater j is compared with those of the k raters from i on that are not yet
--- beaten, until it is beaten itself.
-unfoldable pub compared : (ℕ → ℕ → Bool) → ℕ → ℕ → ℕ → List ℕ → List ℕ
-compared beats j zero i marks = marks
-compared beats j (suc k) i marks =
-    cond (eqb (get_or marks i 0) 0)
-    (cond (beats i j) (set marks j 1) (cond (beats j i) (compared beats j k (suc i) (set marks i 1)) (compared beats j k (suc i) marks)))
-    (compared beats j k (suc i) marks)
+-- Whether each rater is known to be beaten. This is it once rater j is compared with those of the k raters from i on that are not yet beaten, until
+-- it is beaten itself.
+unfoldable pub compared : (ℕ → ℕ → Bool) → ℕ → ℕ → ℕ → List Bool → List Bool
+compared beats j zero i beaten = beaten
+compared beats j (suc k) i beaten =
+    cond (get_or beaten i false)
+    (compared beats j k (suc i) beaten)
+    (cond (beats i j) (set beaten j true) (cond (beats j i) (compared beats j k (suc i) (set beaten i true)) (compared beats j k (suc i) beaten)))
 
 -- once each of n raters is compared with those before it
-unfoldable pub all_compared : (ℕ → ℕ → Bool) → ℕ → List ℕ
-all_compared beats zero = replicate 16 0
+unfoldable pub all_compared : (ℕ → ℕ → Bool) → ℕ → List Bool
+all_compared beats zero = replicate 16 false
 all_compared beats (suc n) = compared beats n n 0 (all_compared beats n)
 
--- the numbers of those without a mark, among the first n
-abbrev pub unmarked : List ℕ → ℕ → List ℕ
-unmarked marks n = numbers_of_lem (λ x. eqb x 0) 1 (take n marks)
+-- the numbers of those that are not beaten
+abbrev pub unmarked : List Bool → List ℕ
+unmarked beaten = numbers_of_lem not 1 beaten
+
+-- those of the raters with these scales
+abbrev pub unbeaten_in : List Scale → List ℕ
+unbeaten_in held = unmarked (take (length held) (all_compared (beats held) (length held)))

@@ -1,13 +1,13 @@
 // Which raters no other one is better than, by their pooled scales.
 ghost use Rattle.std.specs.Prelude.{◌+◌, ◌≤◌, ◌<◌, ◌≡◌, ◌++◌, length, drop};
 ghost use Rattle.cutoff.specs.Verdict.{never_dearer_lem};
-ghost use Rattle.shortlist.specs.Private.{scale_at, Searchable, beats, winner_of, compared, all_compared, unmarked};
+ghost use Rattle.shortlist.specs.Private.{table_held, Comparable, Searchable, beats, winner_of, compared, unmarked, unbeaten_in};
 
-use crate::scales::{HELD, blocks_at};
+use crate::scales::Scale;
 use book::RATERS;
 use cutoff::never_dearer;
 
-// Which of two raters is better: at least as good, and not the reverse.
+// Which of two raters is better: at least as good, and not the reverse. An `Option` of the better one would name the same three cases.
 #[derive(Clone, Copy)]
 pub enum Winner {
     First,
@@ -15,66 +15,52 @@ pub enum Winner {
     Neither,
 }
 
-// The better one of rater i and a later one.
-fn better_of(held: &[u32], i: usize, j: usize) -> Winner
-    requires { (i < j) × Searchable held.now (j + 1) }
-    ensures { result ≡ winner_of (never_dearer_lem (scale_at held.now i) (scale_at held.now j))
-        (never_dearer_lem (scale_at held.now j) (scale_at held.now i)) }
+// The better one of two raters.
+fn better_of(first: &Scale, second: &Scale) -> Winner
+    requires { Comparable first.now second.now }
+    ensures { result ≡ winner_of (never_dearer_lem (table_held first.now) (table_held second.now))
+        (never_dearer_lem (table_held second.now) (table_held first.now)) }
 {
-    let first = blocks_at(held, i);
-    let second = blocks_at(held, j);
-    if never_dearer(first, second) {
-        if never_dearer(second, first) {
-            Winner::Neither
-        } else {
-            Winner::First
-        }
-    } else if never_dearer(second, first) {
-        Winner::Second
-    } else {
-        Winner::Neither
+    let one = first.blocks.as_slice();
+    let two = second.blocks.as_slice();
+    match (never_dearer(one, two), never_dearer(two, one)) {
+        (true, false) => Winner::First,
+        (false, true) => Winner::Second,
+        _ => Winner::Neither,
     }
 }
 
 // Compares rater j with those before it that are not beaten, until it is beaten itself, and marks who is. Who is beaten needs no further
 // comparison: whom it beats an unbeaten one beats, too.
-fn compare_with(held: &[u32], j: usize, marks: &mut [u32; RATERS])
-    requires { (length marks.old ≡ 16) × Searchable held.now (j + 1) }
-    ensures marks_after { marks.new ≡ compared (beats held.now) j j 0 marks.old }
-    ensures length { length marks.new ≡ 16 }
+fn compare_with(held: &[Scale], j: usize, beaten: &mut [bool; RATERS])
+    requires { Searchable held.now × (j < length held.now) }
+    ensures { beaten.new ≡ compared (beats held.now) j j 0 beaten.old }
 {
-    let mut i: usize = 0;
-    while i < j {
-        let at = i;
-        i += 1;
-        if marks[at] != 0 {
+    for i in 0..j {
+        if beaten[i] {
             continue;
         }
-        let winner = better_of(held, at, j);
-        match winner {
+        match better_of(&held[i], &held[j]) {
             Winner::First => {
-                marks[j] = 1;
+                beaten[j] = true;
                 return;
             }
-            Winner::Second => marks[at] = 1,
+            Winner::Second => beaten[i] = true,
             Winner::Neither => {}
         }
     }
 }
 
-// Writes the numbers of the raters without a mark, and answers how many.
-fn write_list(marks: &[u32; RATERS], raters: usize, out: &mut [u32]) -> usize
-    requires { (raters ≤ 16) × (raters ≤ length out.old) × (length marks.now ≡ 16) }
-    ensures value { result ≡ length (unmarked marks.now raters) }
-    ensures out_after { out.new ≡ unmarked marks.now raters ++ drop result out.old }
+// Writes the numbers of the raters that are not beaten, and answers how many.
+fn write_list(beaten: &[bool], out: &mut [u32]) -> usize
+    requires { (length beaten.now ≤ 16) × (length beaten.now ≤ length out.old) }
+    ensures value { result ≡ length (unmarked beaten.now) }
+    ensures out_after { out.new ≡ unmarked beaten.now ++ drop result out.old }
 {
     let mut count: usize = 0;
-    let mut i: usize = 0;
-    while i < raters {
-        let at = i;
-        i += 1;
-        if marks[at] == 0 {
-            out[count] = i as u32;
+    for (i, &beaten) in beaten.iter().enumerate() {
+        if !beaten {
+            out[count] = i as u32 + 1;
             count += 1;
         }
     }
@@ -82,17 +68,16 @@ fn write_list(marks: &[u32; RATERS], raters: usize, out: &mut [u32]) -> usize
 }
 
 // Lists the raters that no other one is better than, and answers how many. The further numbers of `out` are kept.
-pub fn list_unbeaten(held: &[u32; HELD], raters: usize, out: &mut [u32]) -> usize
-    requires scales { Searchable held.now raters }
-    requires room { raters ≤ length out.old }
-    ensures value { result ≡ length (unmarked (all_compared (beats held.now) raters) raters) }
-    ensures out_after { out.new ≡ unmarked (all_compared (beats held.now) raters) raters ++ drop result out.old }
+pub fn list_unbeaten(held: &[Scale], out: &mut [u32]) -> usize
+    requires scales { Searchable held.now }
+    requires room { length held.now ≤ length out.old }
+    ensures value { result ≡ length (unbeaten_in held.now) }
+    ensures out_after { out.new ≡ unbeaten_in held.now ++ drop result out.old }
 {
-    let mut marks = [0u32; RATERS];
-    let mut j: usize = 0;
-    while j < raters {
-        compare_with(held, j, &mut marks);
-        j += 1;
+    let raters = held.len();
+    let mut beaten = [false; RATERS];
+    for j in 0..raters {
+        compare_with(held, j, &mut beaten);
     }
-    write_list(&marks, raters, out)
+    write_list(&beaten[..raters], out)
 }

@@ -8,3 +8,4 @@ pub mod Adding
 pub mod Brier
 pub mod Proper
 pub mod Plain
+pub mod Passing

@@ -10,9 +10,9 @@ ghost use Rattle.spread.specs.Near.{Within};
 ghost use Rattle.spread.specs.Spread.{IsSpread, residual_sum};
 ghost use Rattle.spread.specs.Claims.{Claims};
 
-use pooled_place::{counts_of, place_grades};
+use pooled_place::counts_of;
 use pooling::{Block, NUMBERS};
-use table::{Obligors, PLACE, obligors_at, totals_of};
+use table::{Obligors, PLACE, grades_of, obligors_at, totals_of};
 
 // The two numbers of document 01's spread record.
 #[derive(Clone, Copy)]
@@ -38,25 +38,19 @@ fn residual(place: &[u32]) -> f64
     requires { HoldsPooledTable place.now }
     ensures { Within result (residual_sum (spanning (table_in place.now))) 29 }
 {
-    let end = PLACE + NUMBERS * place_grades(place);
-    let mut x = Block {
-        grades: 0,
-        obligors: Obligors(0),
-        defaults: 0,
-    };
+    let mut last: Option<Block> = None;
     let mut sum = 0.0;
-    let mut at = PLACE;
-    while at < end {
+    for i in 0..grades_of(place) {
+        let at = PLACE + NUMBERS * i;
         let defaults = place[at];
         let obligors = obligors_at(place, at + 1);
-        at += NUMBERS;
-        if !x.shows(defaults, obligors) {
-            sum = sum + quotient(defaults, obligors);
-            x = Block {
-                grades: 0,
+        if !last.is_some_and(|block| block.shows(defaults, obligors)) {
+            sum += quotient(defaults, obligors);
+            last = Some(Block {
+                grades: 1,
                 obligors,
                 defaults,
-            };
+            });
         }
     }
     sum

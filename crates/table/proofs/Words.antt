@@ -6,15 +6,14 @@ use mathlib.Core.List.{List, [], ◌∷◌, ◌++◌, append_assoc}
 use native.Mathlib.Nat.{zero-add}
 use native.Mathlib.Omega.{arith}
 use lib.Dec.{eqb}
-use lib.ListN.{length, get_or, set, take, drop, replicate, length-append}
-use lib.Seq.{paste, set_at, take_all, take_at, drop_at, drop-drop, get_or-take, get_or-drop}
+use lib.ListN.{length, get_or, take, drop, length-append}
+use lib.Seq.{take_at, drop_at, drop-drop, get_or-take, get_or-drop}
 use Rattle.table.specs.declared.Place.{Place}
-use Rattle.table.specs.Table.{Counted, Rated, Sound}
+use Rattle.table.specs.Table.{Counted, Rated, Sound, defaults_in, obligors_in}
 use Rattle.table.specs.Place.{fresh, grade_at, table_of, place_of, SoundPlace, empty, holds}
-use Rattle.table.specs.Words.{place_size, words_of, column_in, place_in, HoldsTable, IsPlace}
-use Rattle.table.proofs.Pastes.{paste-behind}
+use Rattle.table.specs.Words.{place_size, words_of, column_in, place_in, table_in, HoldsTable, IsPlace}
 use Rattle.table.proofs.Placed.{length-column, placed_grades, placed_loaded, sound_placed}
-use Rattle.table.proofs.Suffix.{suffix, suffix_down, every_suffix, length_grades, Small, small}
+use Rattle.table.proofs.Suffix.{suffix, suffix_end, suffix_at, suffix_down, every_suffix, length_grades, Small, sound_small, small}
 
 -- Places that calls left.
 
@@ -91,46 +90,16 @@ module _ (p : Place) (long : Long p) where
       let l : eqb (get_or words 121 0) 1 ≡ p.loaded = ap (λ (n : ℕ). eqb n 1) (number 1) ∙ flag_back p.loaded in
       rw (o, d, a, number 0, l) refl
 
--- The words, stored column by column over zeros.
-pub words_put : (p : Place) → Long p → {u v w : List ℕ}
-    → u ≡ paste (replicate 122 0) 0 p.obligors (length p.obligors)
-    → v ≡ paste u 40 p.defaults (length p.defaults)
-    → w ≡ paste v 80 p.announced (length p.announced)
-    → set (set w 120 p.grades) 121 (cond p.loaded 1 0) ≡ words_of p
-words_put p l e f g =
-    let zeros : List ℕ = replicate 122 0 in
-    let two = p.obligors ++ p.defaults in
-    let all = p.obligors ++ p.defaults ++ p.announced in
-    let n : length two ≡ 80 = rw (length-append, l.obligors, l.defaults) refl in
-    let m : length all ≡ 120 = rw (length-append, length-append, l.obligors, l.defaults, l.announced) refl in
-    let k : length (all ++ (p.grades ∷ [])) ≡ 121 = rw (length-append, m) refl in
-    let stored : paste zeros 0 all 120 ≡ all ++ (0 ∷ 0 ∷ []) = rw (take_all 120 all (omega arith)) refl in
-    rw (
-      rw l.announced at g,
-      rw l.defaults at f,
-      rw l.obligors at e,
-      paste-behind zeros p.obligors p.defaults 0 40 40 40 refl l.obligors (omega arith) (omega arith),
-      paste-behind zeros two p.announced 0 80 40 80 refl n (omega arith) (omega arith),
-      stored,
-      set_at all 0 (0 ∷ []) p.grades 120 m,
-    )
-    (ap (λ (x : List ℕ). set x 121 (cond p.loaded 1 0)) (sym (append_assoc all (p.grades ∷ []) (0 ∷ [])))
-    ∙ set_at (all ++ (p.grades ∷ [])) 0 [] (cond p.loaded 1 0) 121 k
-    ∙ append_assoc all (p.grades ∷ []) (cond p.loaded 1 0 ∷ []))
-
 pub is-place : {p : Place} → SoundPlace p → IsPlace (words_of p)
 is-place {p} s = let e = place_back p (long_place s) in record { sound = rw e s; exact = ap words_of (sym e) }
 
 pub long_words : {w : List ℕ} → IsPlace w → length w ≡ place_size
 long_words i = rw i.exact (words_length _ (long_place i.sound))
 
--- A place that calls left and that is loaded holds a table; one that is not holds nothing.
+-- A place that calls left and that is loaded holds a table.
 
 pub holds-table : {w : List ℕ} → IsPlace w → (place_in w).loaded ≡ true → HoldsTable w
 holds-table i h = record { long = long_words i; sound = sound_loaded i.sound h }
-
-pub holds_nothing : {w : List ℕ} → IsPlace w → (place_in w).loaded ≡ false → w ≡ words_of fresh
-holds_nothing i h = i.exact ∙ ap words_of (not_loaded i.sound h)
 
 -- What a turn of a loop knows that goes from grade i to the next better one: where its counts stand, and the grades passed.
 pub record Turn (w : List ℕ) (i : ℕ) : Type 0 where
@@ -171,3 +140,29 @@ turn w i h pos l =
       worse = small p i h.sound l;
       here = rw e at (small p (i - 1) h.sound at);
     }
+
+-- What a turn of a loop knows that goes from grade i to the next worse one: where its counts stand, and what they are of the sums.
+pub record Onward (w : List ℕ) (i : ℕ) : Type 0 where
+  pub inside : 40 + i < length w
+  pub obligors : obligors_in (suffix (place_in w) i) ≡ get_or w i 0 + obligors_in (suffix (place_in w) (i + 1))
+  pub defaults : defaults_in (suffix (place_in w) i) ≡ get_or w (40 + i) 0 + defaults_in (suffix (place_in w) (i + 1))
+  pub whole : Small (table_in w)
+
+pub onward : (w : List ℕ) (i : ℕ) → HoldsTable w → i < (place_in w).grades → Onward w i
+unfolding obligors_in defaults_in
+onward w i h less =
+    let p = place_in w in
+    let near : i < 40 = omega (arith, few_in h) in
+    let n : get_or w i 0 ≡ (grade_at p i).obligors = rw zero-add at (column-at w 0 i near) in
+    let d : get_or w (40 + i) 0 ≡ (grade_at p i).defaults = column-at w 40 i near in
+    record {
+      inside = omega (arith, h.long);
+      obligors = rw (suffix_at p i less) (ap (λ (k : ℕ). k + obligors_in (suffix p (i + 1))) (sym n));
+      defaults = rw (suffix_at p i less) (ap (λ (k : ℕ). k + defaults_in (suffix p (i + 1))) (sym d));
+      whole = sound_small h.sound;
+    }
+
+-- Behind the last grade the sums are 0.
+pub ended : (p : Place) (i : ℕ) → p.grades ≤ i → (obligors_in (suffix p i) ≡ 0) × (defaults_in (suffix p i) ≡ 0)
+unfolding obligors_in defaults_in
+ended p i past = let none = suffix_end p i past in (rw none, rw none)

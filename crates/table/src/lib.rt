@@ -1,7 +1,7 @@
 // A grade table in a place of the desk, its counts and its totals.
 #![tactic(auto)]
 
-ghost use Rattle.std.specs.Prelude.{◌+◌, ◌-◌, ◌≤◌, ◌<◌, ◌≡◌, cond, length, get_or, replicate};
+ghost use Rattle.std.specs.Prelude.{◌+◌, ◌-◌, ◌≤◌, ◌<◌, ◌≡◌, length, get_or};
 ghost use Rattle.std.proofs.Math.IntN.{sub_ℕ};
 ghost use Rattle.std.proofs.Math.Seq.{paste};
 ghost use Rattle.table.specs.Table.{obligors_in};
@@ -55,11 +55,7 @@ impl Survivors {
     pub fn with_defaults(self, defaults: u32) -> Obligors
         ensures { result.0 ≡ capped (self.0 + defaults) }
     {
-        if self.0 <= 4_294_967_295 - defaults {
-            Obligors(self.0 + defaults)
-        } else {
-            Obligors(4_294_967_295)
-        }
+        Obligors(self.0.saturating_add(defaults))
     }
 }
 
@@ -109,13 +105,6 @@ pub const LOADED: usize = 121;
 
 pub const PLACE: usize = 122;
 
-// A count as an index.
-pub fn wide(n: u32) -> usize
-    ensures { result ≡ n }
-{
-    n as usize
-}
-
 // A count of obligors out of lent words. A count becomes one of its kind here and in `survivors_at`, where the words are lent, and nowhere else.
 pub fn obligors_at(words: &[u32], at: usize) -> Obligors
     requires { at < length words.now }
@@ -140,31 +129,20 @@ pub fn difference(a: u64, b: u64) -> i64
     (a as i64) - (b as i64)
 }
 
-// The grade count of a lent place.
+// The grade count of a lent place, whatever stands behind its words.
 pub fn grades_of(place: &[u32]) -> usize
-    requires { length place.now ≡ place_size }
+    requires { place_size ≤ length place.now }
     ensures { result ≡ (place_in place.now).grades }
 {
-    wide(place[GRADE_COUNT])
+    place[GRADE_COUNT] as usize
 }
 
-// Whether a lent place is loaded.
+// Whether a lent place is loaded, whatever stands behind its words.
 pub fn is_loaded(place: &[u32]) -> bool
-    requires { length place.now ≡ place_size }
+    requires { place_size ≤ length place.now }
     ensures { result ≡ (place_in place.now).loaded }
 {
     place[LOADED] == 1
-}
-
-// Makes all of some words 0.
-pub fn wipe_words(words: &mut [u32])
-    ensures { words.new ≡ replicate (length words.old) 0 }
-{
-    let mut i: usize = 0;
-    while i < words.len() {
-        words[i] = 0;
-        i += 1;
-    }
 }
 
 // Makes the words of a lent place those of an empty one.
@@ -172,25 +150,17 @@ pub fn wipe(place: &mut [u32])
     requires { length place.old ≡ place_size }
     ensures { place.new ≡ words_of fresh }
 {
-    wipe_words(place);
+    place.fill(0);
 }
 
-// The number that marks a loaded place.
-fn mark(loaded: bool) -> u32
-    ensures { result ≡ cond loaded 1 0 }
-{
-    if loaded { 1 } else { 0 }
-}
-
-// Stores numbers from `at` on.
+// Stores numbers from `at` on. By a loop: by `copy_from_slice`, which calls memmove, `pool` costs more than 1.1 times the optimised version.
+#[tactic(auto, using(std::proofs::lemmas::List::Edits::paste_more))]
 pub fn put_numbers(words: &mut [u32], at: usize, numbers: &[u32])
     requires { at + length numbers.now ≤ length words.old }
     ensures { words.new ≡ paste words.old at numbers.now (length numbers.now) }
 {
-    let mut i: usize = 0;
-    while i < numbers.len() {
-        words[at + i] = numbers[i];
-        i += 1;
+    for (i, n) in numbers.iter().enumerate() {
+        words[at + i] = *n;
     }
 }
 
@@ -199,13 +169,7 @@ fn column_at(words: &[u32], at: usize) -> [u32; GRADES]
     requires { at + 40 ≤ length words.now }
     ensures { result ≡ column_in words.now at }
 {
-    let mut column = [0u32; GRADES];
-    let mut i: usize = 0;
-    while i < GRADES {
-        column[i] = words[at + i];
-        i += 1;
-    }
-    column
+    words[at..at + GRADES].try_into().unwrap()
 }
 
 impl Place {
@@ -215,11 +179,11 @@ impl Place {
         ensures { result ≡ words_of self }
     {
         let mut words = [0u32; PLACE];
-        put_numbers(&mut words, 0, &self.obligors);
-        put_numbers(&mut words, DEFAULTS, &self.defaults);
-        put_numbers(&mut words, ANNOUNCED, &self.announced);
+        words[..DEFAULTS].copy_from_slice(&self.obligors);
+        words[DEFAULTS..ANNOUNCED].copy_from_slice(&self.defaults);
+        words[ANNOUNCED..GRADE_COUNT].copy_from_slice(&self.announced);
         words[GRADE_COUNT] = self.grades as u32;
-        words[LOADED] = mark(self.loaded);
+        words[LOADED] = u32::from(self.loaded);
         words
     }
 
@@ -235,19 +199,18 @@ impl Place {
             obligors,
             defaults,
             announced,
-            grades: wide(words[GRADE_COUNT]),
+            grades: words[GRADE_COUNT] as usize,
             loaded: words[LOADED] == 1,
         }
     }
 }
 
-// The grade count, by a test from which the compiler sees that it is at most 40: it unrolls a loop that it knows to be short.
+// The grade count, by a `min` from which the compiler sees that it is at most 40: it unrolls a loop that it knows to be short.
 fn few_grades_of(place: &[u32]) -> usize
     requires { HoldsTable place.now }
     ensures { result ≡ (place_in place.now).grades }
 {
-    let grades = grades_of(place);
-    if grades < GRADES { grades } else { GRADES }
+    grades_of(place).min(GRADES)
 }
 
 // N of the table in a lent place alone.
@@ -257,10 +220,8 @@ pub fn obligors_of(place: &[u32]) -> Obligors
 {
     let grades = few_grades_of(place);
     let mut all = Obligors(0);
-    let mut i: usize = 0;
-    while i < grades {
+    for i in 0..grades {
         all = all.plus(obligors_at(place, i));
-        i += 1;
     }
     all
 }
@@ -270,11 +231,10 @@ pub fn totals_of(place: &[u32]) -> Totals
     requires { HoldsTable place.now }
     ensures { result ≡ totals_of_lem (table_in place.now) }
 {
-    let mut i = grades_of(place);
-    let mut sum: u32 = 0;
+    let grades = grades_of(place);
+    let mut sum = 0;
     let mut all = Obligors(0);
-    while 0 < i {
-        i -= 1;
+    for i in 0..grades {
         sum += place[DEFAULTS + i];
         all = all.plus(obligors_at(place, i));
     }

@@ -1,14 +1,14 @@
 -- `cheapest` meets its contract.
 use native.Mathlib.Omega.{arith}
 use Rattle.table.proofs.Words.{long_words}
-use Rattle.book.proofs.Checks.{none, pass, over}
+use Rattle.book.proofs.Checks.{none, pass, over, over_or}
 use Rattle.calls.specs.Calls.{cheapest}
 use Rattle.calls.proofs.Answered.{refuses, accepts}
 use Rattle.calls.proofs.Asked.{asked_empty, ready, asked}
 use Rattle.calls.proofs.cheapest.Goals as goal
 
 pub is_loaded-requires : goal.is_loaded-requires
-is_loaded-requires c = long_words c.requires
+is_loaded-requires c = omega (arith, long_words c.requires)
 
 pub returns-then-not-is_loaded : goal.returns-then-not-is_loaded
 returns-then-not-is_loaded c = asked_empty _ (cheapest _ _) _ _ c.is_loaded.ensures c.if-not-is_loaded.true
@@ -16,19 +16,10 @@ returns-then-not-is_loaded c = asked_empty _ (cheapest _ _) _ _ c.is_loaded.ensu
 pub returns-then-u-gt-PRICE : goal.returns-then-u-gt-PRICE
 returns-then-u-gt-PRICE c =
     let r = ready _ c.requires c.is_loaded.ensures c.if-not-is_loaded.false in
-    refuses 12 _ (asked (cheapest _ _) r (over (omega arith))) (λ z. omega arith)
+    refuses 12 _ (asked (cheapest _ _) r (over_or (λ h. over (omega arith)))) (λ z. omega arith)
 
-pub returns-then-v-gt-PRICE : goal.returns-then-v-gt-PRICE
-returns-then-v-gt-PRICE c =
-    let r = ready _ c.requires c.is_loaded.ensures c.if-not-is_loaded.false in
-    refuses 12 _ (asked (cheapest _ _) r (pass (omega arith) (over (omega arith)))) (λ z. omega arith)
-
-pub cheapest-requires : goal.cheapest-requires
-cheapest-requires c =
-    record {
-      holds_table = (ready _ c.requires c.is_loaded.ensures c.if-not-is_loaded.false).holds;
-      prices = (omega arith, omega arith);
-    }
+pub cheapest-requires-clause-holds_table : goal.cheapest-requires-clause-holds_table
+cheapest-requires-clause-holds_table c = (ready _ c.requires c.is_loaded.ensures c.if-not-is_loaded.false).holds
 
 pub returns : goal.returns
 returns c =

@@ -10,7 +10,7 @@ use Rattle.calls.proofs.Asked.{asked_empty, ready, asked}
 use Rattle.calls.proofs.measures.Goals as goal
 
 pub is_loaded-requires : goal.is_loaded-requires
-is_loaded-requires c = long_words c.requires
+is_loaded-requires c = omega (arith, long_words c.requires)
 
 pub returns-then-not-is_loaded : goal.returns-then-not-is_loaded
 returns-then-not-is_loaded c = asked_empty _ measures _ _ c.is_loaded.ensures c.if-not-is_loaded.true

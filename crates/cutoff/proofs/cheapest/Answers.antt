@@ -16,6 +16,7 @@ use Rattle.table.proofs.Words.{Turn, turn}
 use Rattle.cutoff.specs.Cutoff.{cheapest_of}
 use Rattle.cutoff.proofs.Cost.{cost_le_all, cheapest_cost, cheapest_none, cheapest_away, cheapest_accepts}
 use Rattle.cutoff.proofs.cheapest.Invariants.{Swept}
+use Rattle.cutoff.proofs.cheapest.Goals.{After-plus-passed}
 use Rattle.cutoff.proofs.cheapest.Goals as goal
 
 -- What a turn knows: with this grade, of d defaults, s survivors are passed. The table has k grades.
@@ -57,13 +58,6 @@ choice u v w i passed cutoff cost s prices pos f kept e =
       accepted = λ h. rw f.down (sym (rw (same, cheapest_cost) at (cheapest_accepts r t u v (rw (total, same, cheapest_cost) h))));
     }
 
--- A turn, with what the code has read: k is the count of grades.
-chosen : {u v : ℕ} {w : List ℕ} {i : ℕ} {passed : Survivors} {cutoff cost : ℕ} → (u ≤ 1_000_000) × (v ≤ 1_000_000) → 0 < i → Turn w i
-    → Swept u v (place_in w) i passed cutoff cost → (k s : ℕ) → k ≡ (place_in w).grades
-    → s ≡ passed.0 + survivors (grade_at (place_in w) (i - 1)) → Choice u v (place_in w) k (i - 1) s (get_or w (40 + (i - 1)) 0) cutoff cost
-chosen {u} {v} {w} {i} {passed} {cutoff} {cost} prices pos f kept k s grades e =
-    rw (grades, f.defaults) (choice u v w i passed cutoff cost s prices pos f kept e)
-
 pub loop-i-init : goal.loop-i-init
 unfolding survivors_in
 loop-i-init c =
@@ -71,74 +65,45 @@ loop-i-init c =
     let none = suffix_end p c.grades_of-grades.result (omega (arith, c.grades_of-grades.ensures)) in
     record { inside = omega (arith, c.grades_of-grades.ensures); all_passed = rw none; cheapest = rw (none, cheapest_none) }
 
-pub bounds-place-i : goal.bounds-place-i
-bounds-place-i c =
-    let f = turn _ _ c.requires.holds_table c.loop-i-test.true c.loop-i.invariant.inside in
-    omega arith
-
-pub obligors_at-requires : goal.obligors_at-requires
-obligors_at-requires c =
-    let f = turn _ _ c.requires.holds_table c.loop-i-test.true c.loop-i.invariant.inside in
-    omega arith
-
-pub survivors-requires : goal.survivors-requires
-survivors-requires c =
-    let f = turn _ _ c.requires.holds_table c.loop-i-test.true c.loop-i.invariant.inside in
-    omega (arith, c.obligors_at.ensures)
-
 pub plus-passed-requires : goal.plus-passed-requires
 unfolding survivors_in obligors_in
 plus-passed-requires c =
     let f = turn _ _ c.requires.holds_table c.loop-i-test.true c.loop-i.invariant.inside in
     omega (arith, c.obligors_at.ensures, c.survivors.ensures)
 
-pub overflow_cast-away-in-loop-i : goal.overflow_cast-away-in-loop-i
-overflow_cast-away-in-loop-i c =
+-- A turn, once it has read its grade: its survivors are passed.
+reached : (c : After-plus-passed)
+    → Choice c.args.u c.args.v (place_in c.args.place.now) c.grades_of-grades.result (c.loop-i.i - 1) c.plus-passed.result.0
+    (get_or c.args.place.now (40 + (c.loop-i.i - 1)) 0) c.loop-i.cutoff c.loop-i.cost
+reached c =
     let t = turn _ _ c.requires.holds_table c.loop-i-test.true c.loop-i.invariant.inside in
-    let f = chosen c.requires.prices c.loop-i-test.true t c.loop-i.invariant _ c.plus-passed.result.0 c.grades_of-grades.ensures
-    (omega (arith, c.plus-passed.ensures, c.survivors.ensures, c.obligors_at.ensures)) in
-    omega arith
+    rw (c.grades_of-grades.ensures, t.defaults)
+    (choice c.args.u c.args.v c.args.place.now c.loop-i.i c.loop-i.passed c.loop-i.cutoff c.loop-i.cost c.plus-passed.result.0 c.requires.prices
+    c.loop-i-test.true t c.loop-i.invariant (omega (arith, c.plus-passed.ensures, c.survivors.ensures, c.obligors_at.ensures)))
+
+pub overflow_cast-away-in-loop-i : goal.overflow_cast-away-in-loop-i
+overflow_cast-away-in-loop-i c = let f = reached (goal.at.overflow_cast-away-in-loop-i c).After-plus-passed in omega arith
 
 pub overflow_mul-away : goal.overflow_mul-away
-overflow_mul-away c =
-    let t = turn _ _ c.requires.holds_table c.loop-i-test.true c.loop-i.invariant.inside in
-    let f = chosen c.requires.prices c.loop-i-test.true t c.loop-i.invariant _ c.plus-passed.result.0 c.grades_of-grades.ensures
-    (omega (arith, c.plus-passed.ensures, c.survivors.ensures, c.obligors_at.ensures)) in
-    omega arith
+overflow_mul-away c = let f = reached (goal.at.overflow_mul-away c).After-plus-passed in omega arith
 
 pub overflow_cast-accepted-in-loop-i : goal.overflow_cast-accepted-in-loop-i
-overflow_cast-accepted-in-loop-i c =
-    let t = turn _ _ c.requires.holds_table c.loop-i-test.true c.loop-i.invariant.inside in
-    let f = chosen c.requires.prices c.loop-i-test.true t c.loop-i.invariant _ c.plus-passed.result.0 c.grades_of-grades.ensures
-    (omega (arith, c.plus-passed.ensures, c.survivors.ensures, c.obligors_at.ensures)) in
-    omega arith
+overflow_cast-accepted-in-loop-i c = let f = reached (goal.at.overflow_cast-accepted-in-loop-i c).After-plus-passed in omega arith
 
 pub overflow_mul-accepted : goal.overflow_mul-accepted
-overflow_mul-accepted c =
-    let t = turn _ _ c.requires.holds_table c.loop-i-test.true c.loop-i.invariant.inside in
-    let f = chosen c.requires.prices c.loop-i-test.true t c.loop-i.invariant _ c.plus-passed.result.0 c.grades_of-grades.ensures
-    (omega (arith, c.plus-passed.ensures, c.survivors.ensures, c.obligors_at.ensures)) in
-    omega arith
+overflow_mul-accepted c = let f = reached (goal.at.overflow_mul-accepted c).After-plus-passed in omega arith
 
 pub overflow_add-accepted : goal.overflow_add-accepted
-overflow_add-accepted c =
-    let t = turn _ _ c.requires.holds_table c.loop-i-test.true c.loop-i.invariant.inside in
-    let f = chosen c.requires.prices c.loop-i-test.true t c.loop-i.invariant _ c.plus-passed.result.0 c.grades_of-grades.ensures
-    (omega (arith, c.plus-passed.ensures, c.survivors.ensures, c.obligors_at.ensures)) in
-    omega arith
+overflow_add-accepted c = let f = reached (goal.at.overflow_add-accepted c).After-plus-passed in omega arith
 
 pub loop-i-preserved-then-away-accepted : goal.loop-i-preserved-then-away-accepted
 loop-i-preserved-then-away-accepted c =
-    let t = turn _ _ c.requires.holds_table c.loop-i-test.true c.loop-i.invariant.inside in
-    let f = chosen c.requires.prices c.loop-i-test.true t c.loop-i.invariant _ c.plus-passed.result.0 c.grades_of-grades.ensures
-    (omega (arith, c.plus-passed.ensures, c.survivors.ensures, c.obligors_at.ensures)) in
+    let f = reached (goal.at.loop-i-preserved-then-away-accepted c).After-plus-passed in
     record { inside = search rules; all_passed = f.passed; cheapest = f.away c.if-away-accepted.true }
 
 pub loop-i-preserved : goal.loop-i-preserved
 loop-i-preserved c =
-    let t = turn _ _ c.requires.holds_table c.loop-i-test.true c.loop-i.invariant.inside in
-    let f = chosen c.requires.prices c.loop-i-test.true t c.loop-i.invariant _ c.plus-passed.result.0 c.grades_of-grades.ensures
-    (omega (arith, c.plus-passed.ensures, c.survivors.ensures, c.obligors_at.ensures)) in
+    let f = reached (goal.at.loop-i-preserved c).After-plus-passed in
     record { inside = search rules; all_passed = f.passed; cheapest = f.accepted c.if-away-accepted.false }
 
 pub returns : goal.returns

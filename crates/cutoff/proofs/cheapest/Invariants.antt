@@ -16,6 +16,3 @@ pub record Swept (u v : ℕ) (p : Place) (i : ℕ) (passed : Survivors) (cutoff 
 
 abbrev pub invariant-loop-i : goal.invariant-loop-i
 invariant-loop-i l = Swept l.u l.v (place_in l.place) l.i l.passed l.cutoff l.cost
-
-abbrev pub decreases-loop-i : goal.decreases-loop-i
-decreases-loop-i l = l.i

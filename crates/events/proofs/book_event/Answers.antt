@@ -1,249 +1,108 @@
 -- `book_event` meets its contract.
-use Prim.Native.Nat.{ℕ, zero, suc, ◌+◌, ◌-◌, ◌≤◌, ◌<◌}
+use Prim.Native.Nat.{ℕ, ◌+◌, ◌-◌}
 use mathlib.Core.Path.{◌≡◌, refl, sym, ap, subst, ◌∙◌}
 use mathlib.Core.List.{List, ◌++◌}
 use native.Mathlib.Omega.{arith}
-use lib.ListN.{length, get_or, set, length-set}
-use Rattle.table.specs.Table.{Table, Sound, obligors_in}
+use lib.ListN.{length, set, length-set}
+use Rattle.table.specs.Table.{Table, Sound}
 use Rattle.table.specs.Place.{place_of}
-use Rattle.table.specs.Words.{words_of, table_in, HoldsTable}
-use Rattle.book.specs.Checks.{fault}
-use Rattle.book.proofs.Checks.{found, pass, over, stop}
+use Rattle.table.specs.Words.{words_of, table_in}
+use Rattle.refusals.proofs.Refused.{passed_on}
+use Rattle.book.proofs.Checks.{found, over, over_or, stop}
 use Rattle.pooled_place.specs.PooledPlace.{list_of}
-use Rattle.pooled_place.proofs.Words.{grade_count, held-length, counts_lent, counts_same}
+use Rattle.pooled_place.proofs.Words.{grade_count, held-length, counts_lent}
 use Rattle.pooled_place.proofs.Lists.{table_stored, pooled_anew, list_anew}
-use Rattle.events.specs.Events.{grade_numbered, table_after, firm_checks, event_fault}
-use Rattle.events.specs.declared.Counts.{Counts}
-use Rattle.events.specs.Private.{grade_of, counts_of_lem, words_after_lem}
+use Rattle.events.specs.Events.{table_after, event_fault}
 use Rattle.events.proofs.Tables.{length-after, event_sound}
-use Rattle.events.proofs.Booked.{at_counted, event-fault, at_takes, after_counts, read_counts, stored_counts}
+use Rattle.events.proofs.Booked.{Reached, reached, at_counted, event-fault, at_takes, after_stored}
+use Rattle.events.proofs.book_event.Goals.{After-obligors_at, After-after-after}
 use Rattle.events.proofs.book_event.Goals as goal
-
-two_long : (w : List ℕ) (j n d : ℕ) → length (set (set w j n) (40 + j) d) ≡ length w
-two_long w j n d = length-set (set w j n) (40 + j) d ∙ length-set w j n
-
-left_alone : (n : ℕ) (u : Table) (w : List ℕ) → (n ≡ 0 → ⊥) → w ≡ words_after_lem n u w
-left_alone zero u w h = absurd (h refl)
-left_alone (suc n) u w h = refl
 
 pub counts_of-counts-requires : goal.counts_of-counts-requires
 counts_of-counts-requires c = held-length c.requires
 
 pub grades_of-grades-requires : goal.grades_of-grades-requires
-grades_of-grades-requires c =
-    let holds : HoldsTable c.counts_of-counts.result.now = counts_lent c.requires c.counts_of-counts.ensures in
-    holds.long
+grades_of-grades-requires c = let holds = counts_lent c.requires c.counts_of-counts.ensures in omega (arith, holds.long)
 
-pub returns-then-g-lt1 : goal.returns-then-g-lt1
+pub returns-then-g-lt1-clause-value : goal.returns-then-g-lt1-clause-value
 unfolding event_fault
-returns-then-g-lt1 c =
-    let number : c.wide-g.result ≡ c.args.grade = c.wide-g.ensures in
-    record {
-      value = stop _ (found (over (omega (arith, c.if-g-lt1.true, number)))) (λ z. omega arith);
-      words_after = refl;
-    }
-
-pub returns-then-grades-g : goal.returns-then-grades-g
-unfolding event_fault
-returns-then-grades-g c =
-    let number : c.wide-g.result ≡ c.args.grade = c.wide-g.ensures in
-    let words : List ℕ = c.args.words.now in
-    let table : Table = table_in words in
-    let count : c.grades_of-grades.result ≡ length table = grade_count words c.counts_of-counts.ensures c.grades_of-grades.ensures in
-    let w = number in record {
-      value = stop _ (found (pass (omega (arith, w, c.if-g-lt1.false)) (over (omega (arith, w, count, c.if-grades-g.true))))) (λ z. omega arith);
-      words_after = refl;
-    }
+returns-then-g-lt1-clause-value c =
+    let count = grade_count c.args.words.now c.counts_of-counts.ensures c.grades_of-grades.ensures in
+    stop _ (found (over_or (λ h. over (grind arith)))) (λ z. omega arith)
 
 pub obligors_at-requires : goal.obligors_at-requires
 obligors_at-requires c =
-    let number : c.wide-g.result ≡ c.args.grade = c.wide-g.ensures in
-    let g : ℕ = c.args.grade in
-    let from : 1 ≤ g = omega (arith, number, c.if-g-lt1.false) in
-    let words : List ℕ = c.args.words.now in
-    let table : Table = table_in words in
-    let count : c.grades_of-grades.result ≡ length table = grade_count words c.counts_of-counts.ensures c.grades_of-grades.ensures in
-    let t : Table = table in
-    let to : g ≤ length t = omega (arith, number, count, c.if-grades-g.false) in
-    let i : ℕ = c.wide-g.result - 1 in
-    let i_is : i ≡ g - 1 = ap (λ (n : ℕ). n - 1) number in
-    let near : i < 40 = omega (arith, i_is, from, to, c.requires.sound.few) in
-    let holds : HoldsTable c.counts_of-counts.result.now = counts_lent c.requires c.counts_of-counts.ensures in
-    let long : length c.counts_of-counts.result.now ≡ 122 = holds.long in
-    omega (arith, near, long)
+    let r = reached c.args.grade c.requires c.counts_of-counts.ensures c.grades_of-grades.ensures (omega arith) (omega arith) in
+    omega (arith, r.near, r.counts.long)
+
+-- The grade is one of the table.
+there : (c : After-obligors_at) → Reached c.args.words.now c.counts_of-counts.result.now (c.args.grade - 1) c.args.grade
+there c = reached c.args.grade c.requires c.counts_of-counts.ensures c.grades_of-grades.ensures (omega arith) (omega arith)
 
 pub bounds-counts-i : goal.bounds-counts-i
-bounds-counts-i c =
-    let number : c.wide-g.result ≡ c.args.grade = c.wide-g.ensures in
-    let g : ℕ = c.args.grade in
-    let from : 1 ≤ g = omega (arith, number, c.if-g-lt1.false) in
-    let words : List ℕ = c.args.words.now in
-    let table : Table = table_in words in
-    let count : c.grades_of-grades.result ≡ length table = grade_count words c.counts_of-counts.ensures c.grades_of-grades.ensures in
-    let t : Table = table in
-    let to : g ≤ length t = omega (arith, number, count, c.if-grades-g.false) in
-    let i : ℕ = c.wide-g.result - 1 in
-    let i_is : i ≡ g - 1 = ap (λ (n : ℕ). n - 1) number in
-    let near : i < 40 = omega (arith, i_is, from, to, c.requires.sound.few) in
-    let holds : HoldsTable c.counts_of-counts.result.now = counts_lent c.requires c.counts_of-counts.ensures in
-    let long : length c.counts_of-counts.result.now ≡ 122 = holds.long in
-    omega (arith, near, long)
+bounds-counts-i c = let r = there (goal.at.bounds-counts-i c).After-obligors_at in omega (arith, r.near, r.counts.long)
 
-pub fault-number-requires : goal.fault-number-requires
-fault-number-requires c =
-    let holds : HoldsTable c.counts_of-counts.result.now = counts_lent c.requires c.counts_of-counts.ensures in
-    let words : List ℕ = c.args.words.now in
-    let table : Table = table_in words in
-    let t : Table = table in
-    let g : ℕ = c.args.grade in
-    let number : c.wide-g.result ≡ c.args.grade = c.wide-g.ensures in
-    let from : 1 ≤ g = omega (arith, number, c.if-g-lt1.false) in
-    let count : c.grades_of-grades.result ≡ length table = grade_count words c.counts_of-counts.ensures c.grades_of-grades.ensures in
-    let to : g ≤ length t = omega (arith, number, count, c.if-grades-g.false) in
-    let i : ℕ = c.wide-g.result - 1 in
-    let at : Counts = record { obligors = c.obligors_at.result; defaults = get_or c.counts_of-counts.result.now (40 + i) 0 } in
-    let same_table : table_in c.counts_of-counts.result.now ≡ table = counts_same words c.counts_of-counts.ensures in
-    let i_is : i ≡ g - 1 = ap (λ (n : ℕ). n - 1) number in
-    let inside : i < length t = omega (arith, i_is, from, to) in
-    let at_is : at ≡ counts_of_lem (grade_numbered t g) = read_counts c.counts_of-counts.result.now i g _ t c.obligors_at.ensures holds same_table i_is inside in
-    (holds, at_counted c.args.event g t c.requires.sound from to at at_is)
+pub check-requires : goal.check-requires
+check-requires c =
+    let r = there (goal.at.check-requires c).After-obligors_at in (r.counts, at_counted c.args.event c.requires r c.obligors_at.ensures)
 
-pub returns-then-number-ne0 : goal.returns-then-number-ne0
-returns-then-number-ne0 c =
-    let words : List ℕ = c.args.words.now in
-    let table : Table = table_in words in
-    let t : Table = table in
-    let g : ℕ = c.args.grade in
-    let number : c.wide-g.result ≡ c.args.grade = c.wide-g.ensures in
-    let from : 1 ≤ g = omega (arith, number, c.if-g-lt1.false) in
-    let count : c.grades_of-grades.result ≡ length table = grade_count words c.counts_of-counts.ensures c.grades_of-grades.ensures in
-    let to : g ≤ length t = omega (arith, number, count, c.if-grades-g.false) in
-    let i : ℕ = c.wide-g.result - 1 in
-    let at : Counts = record { obligors = c.obligors_at.result; defaults = get_or c.counts_of-counts.result.now (40 + i) 0 } in
-    let holds : HoldsTable c.counts_of-counts.result.now = counts_lent c.requires c.counts_of-counts.ensures in
-    let same_table : table_in c.counts_of-counts.result.now ≡ table = counts_same words c.counts_of-counts.ensures in
-    let i_is : i ≡ g - 1 = ap (λ (n : ℕ). n - 1) number in
-    let inside : i < length t = omega (arith, i_is, from, to) in
-    let at_is : at ≡ counts_of_lem (grade_numbered t g) = read_counts c.counts_of-counts.result.now i g _ t c.obligors_at.ensures holds same_table i_is inside in
-    let checked : c.fault-number.result ≡ fault (firm_checks c.args.event (grade_of at) (obligors_in t)) = c.fault-number.ensures ∙ ap (λ (u : Table). fault (firm_checks c.args.event (grade_of at) (obligors_in u))) same_table in
-    let fault_is : c.fault-number.result ≡ event_fault c.args.event g t = event-fault c.args.event g t c.requires.sound from to at at_is c.fault-number.result checked in
-    record {
-      value = fault_is;
-      words_after = left_alone c.fault-number.result _ _ c.if-number-ne0.true;
-    }
+pub returns-in_err-check-clause-value : goal.returns-in_err-check-clause-value
+returns-in_err-check-clause-value c =
+    let r = there (goal.at.returns-in_err-check-clause-value c).After-obligors_at in
+    passed_on _ _ c.from_residual.ensures.1 ∙ event-fault c.args.event c.requires r c.obligors_at.ensures _ c.in_err-check.ensures
 
 pub after-after-requires : goal.after-after-requires
 after-after-requires c =
-    let words : List ℕ = c.args.words.now in
-    let table : Table = table_in words in
-    let t : Table = table in
-    let g : ℕ = c.args.grade in
-    let number : c.wide-g.result ≡ c.args.grade = c.wide-g.ensures in
-    let from : 1 ≤ g = omega (arith, number, c.if-g-lt1.false) in
-    let count : c.grades_of-grades.result ≡ length table = grade_count words c.counts_of-counts.ensures c.grades_of-grades.ensures in
-    let to : g ≤ length t = omega (arith, number, count, c.if-grades-g.false) in
-    let i : ℕ = c.wide-g.result - 1 in
-    let at : Counts = record { obligors = c.obligors_at.result; defaults = get_or c.counts_of-counts.result.now (40 + i) 0 } in
-    let holds : HoldsTable c.counts_of-counts.result.now = counts_lent c.requires c.counts_of-counts.ensures in
-    let same_table : table_in c.counts_of-counts.result.now ≡ table = counts_same words c.counts_of-counts.ensures in
-    let i_is : i ≡ g - 1 = ap (λ (n : ℕ). n - 1) number in
-    let inside : i < length t = omega (arith, i_is, from, to) in
-    let at_is : at ≡ counts_of_lem (grade_numbered t g) = read_counts c.counts_of-counts.result.now i g _ t c.obligors_at.ensures holds same_table i_is inside in
-    let checked : c.fault-number.result ≡ fault (firm_checks c.args.event (grade_of at) (obligors_in t)) = c.fault-number.ensures ∙ ap (λ (u : Table). fault (firm_checks c.args.event (grade_of at) (obligors_in u))) same_table in
-    at_takes c.args.event g t c.requires.sound from to at at_is c.fault-number.result checked c.if-number-ne0.false
+    let r = there (goal.at.after-after-requires c).After-obligors_at in
+    at_takes c.args.event c.requires r c.obligors_at.ensures 0 c.in_ok-check.ensures refl
 
 pub bounds-words-i : goal.bounds-words-i
-bounds-words-i c =
-    let number : c.wide-g.result ≡ c.args.grade = c.wide-g.ensures in
-    let g : ℕ = c.args.grade in
-    let from : 1 ≤ g = omega (arith, number, c.if-g-lt1.false) in
-    let words : List ℕ = c.args.words.now in
-    let table : Table = table_in words in
-    let count : c.grades_of-grades.result ≡ length table = grade_count words c.counts_of-counts.ensures c.grades_of-grades.ensures in
-    let t : Table = table in
-    let to : g ≤ length t = omega (arith, number, count, c.if-grades-g.false) in
-    let i : ℕ = c.wide-g.result - 1 in
-    let i_is : i ≡ g - 1 = ap (λ (n : ℕ). n - 1) number in
-    let near : i < 40 = omega (arith, i_is, from, to, c.requires.sound.few) in
-    omega (arith, near, held-length c.requires)
+bounds-words-i c = let r = there (goal.at.bounds-words-i c).After-obligors_at in omega (arith, r.near, held-length c.requires)
 
 pub bounds-words-i-2 : goal.bounds-words-i-2
 bounds-words-i-2 c =
-    let number : c.wide-g.result ≡ c.args.grade = c.wide-g.ensures in
-    let g : ℕ = c.args.grade in
-    let from : 1 ≤ g = omega (arith, number, c.if-g-lt1.false) in
-    let words : List ℕ = c.args.words.now in
-    let table : Table = table_in words in
-    let count : c.grades_of-grades.result ≡ length table = grade_count words c.counts_of-counts.ensures c.grades_of-grades.ensures in
-    let t : Table = table in
-    let to : g ≤ length t = omega (arith, number, count, c.if-grades-g.false) in
-    let i : ℕ = c.wide-g.result - 1 in
-    let i_is : i ≡ g - 1 = ap (λ (n : ℕ). n - 1) number in
-    let near : i < 40 = omega (arith, i_is, from, to, c.requires.sound.few) in
-    rw length-set (omega (arith, near, held-length c.requires))
+    let r = there (goal.at.bounds-words-i-2 c).After-obligors_at in
+    rw length-set (omega (arith, r.near, held-length c.requires))
+
+-- The event is accepted.
+module _ (c : After-after-after) where
+  abbrev words : List ℕ
+  words = c.args.words.now
+
+  -- the table after it
+  abbrev after : Table
+  after = table_after c.args.event c.args.grade (table_in words)
+
+  abbrev stored : List ℕ
+  stored = set (set words (c.args.grade - 1) c.after-after.result.obligors.0) (40 + (c.args.grade - 1)) c.after-after.result.defaults
+
+  r : Reached c.args.words.now c.counts_of-counts.result.now (c.args.grade - 1) c.args.grade
+  r = there (goal.at.After-after-after c).After-obligors_at
+
+  accepted : 0 ≡ event_fault c.args.event c.args.grade (table_in words)
+  accepted = event-fault c.args.event c.requires r c.obligors_at.ensures 0 c.in_ok-check.ensures
+
+  sound : Sound after
+  sound = event_sound c.args.event c.args.grade (table_in words) c.requires.sound (sym accepted)
+
+  long : length stored ≡ length words
+  long = length-set _ _ _ ∙ length-set words _ _
+
+  is_stored : stored ≡ words_of (place_of after) ++ list_of (table_in words)
+  is_stored = after_stored c.args.event c.requires r c.obligors_at.ensures c.after-after.ensures
 
 pub pool_anew-requires : goal.pool_anew-requires
 pool_anew-requires c =
-    let words : List ℕ = c.args.words.now in
-    let table : Table = table_in words in
-    let t : Table = table in
-    let i : ℕ = c.wide-g.result - 1 in
-    let g : ℕ = c.args.grade in
-    let number : c.wide-g.result ≡ c.args.grade = c.wide-g.ensures in
-    let from : 1 ≤ g = omega (arith, number, c.if-g-lt1.false) in
-    let count : c.grades_of-grades.result ≡ length table = grade_count words c.counts_of-counts.ensures c.grades_of-grades.ensures in
-    let to : g ≤ length t = omega (arith, number, count, c.if-grades-g.false) in
-    let i_is : i ≡ g - 1 = ap (λ (n : ℕ). n - 1) number in
-    let inside : i < length t = omega (arith, i_is, from, to) in
-    let at : Counts = record { obligors = c.obligors_at.result; defaults = get_or c.counts_of-counts.result.now (40 + i) 0 } in
-    let holds : HoldsTable c.counts_of-counts.result.now = counts_lent c.requires c.counts_of-counts.ensures in
-    let same_table : table_in c.counts_of-counts.result.now ≡ table = counts_same words c.counts_of-counts.ensures in
-    let at_is : at ≡ counts_of_lem (grade_numbered t g) = read_counts c.counts_of-counts.result.now i g _ t c.obligors_at.ensures holds same_table i_is inside in
-    let stored : set (set words i c.after-after.result.obligors.0) (40 + i) c.after-after.result.defaults
-    ≡ words_of (place_of (table_after c.args.event g t)) ++ list_of t = stored_counts words i g t c.args.event c.after-after.result
-    c.requires.sound c.requires.exact i_is inside
-    (after_counts c.args.event g t c.requires.sound from to at at_is c.after-after.ensures) in
-    let checked : c.fault-number.result ≡ fault (firm_checks c.args.event (grade_of at) (obligors_in t)) = c.fault-number.ensures ∙ ap (λ (u : Table). fault (firm_checks c.args.event (grade_of at) (obligors_in u))) same_table in
-    let fault_is : c.fault-number.result ≡ event_fault c.args.event g t = event-fault c.args.event g t c.requires.sound from to at at_is c.fault-number.result checked in
-    let accepted : event_fault c.args.event g t ≡ 0 = sym fault_is ∙ c.if-number-ne0.false in
-    let sound : Sound (table_after c.args.event g t) = event_sound c.args.event g t c.requires.sound accepted in
-    let w = words in
-    let e = ap (λ (x : List ℕ). table_in x) stored ∙ table_stored _ sound (list_of t) in
-    (two_long w i c.after-after.result.obligors.0 c.after-after.result.defaults ∙ held-length c.requires, subst Sound (sym e) sound)
+    let a = (goal.at.pool_anew-requires c).After-after-after in
+    let e = ap (λ (w : List ℕ). table_in w) (is_stored a) ∙ table_stored _ (sound a) (list_of (table_in (words a))) in
+    (long a ∙ held-length c.requires, subst Sound (sym e) (sound a))
 
-pub shape_of-words : goal.shape_of-words
-shape_of-words c =
-    let words : List ℕ = c.args.words.now in
-    let i : ℕ = c.wide-g.result - 1 in
-    c.pool_anew.auto.words ∙ two_long words i c.after-after.result.obligors.0 c.after-after.result.defaults
+pub returns-clause-value : goal.returns-clause-value
+returns-clause-value c = accepted (goal.at.returns-clause-value c).After-after-after
 
-pub returns : goal.returns
-returns c =
-    let words : List ℕ = c.args.words.now in
-    let table : Table = table_in words in
-    let t : Table = table in
-    let g : ℕ = c.args.grade in
-    let number : c.wide-g.result ≡ c.args.grade = c.wide-g.ensures in
-    let from : 1 ≤ g = omega (arith, number, c.if-g-lt1.false) in
-    let count : c.grades_of-grades.result ≡ length table = grade_count words c.counts_of-counts.ensures c.grades_of-grades.ensures in
-    let to : g ≤ length t = omega (arith, number, count, c.if-grades-g.false) in
-    let i : ℕ = c.wide-g.result - 1 in
-    let at : Counts = record { obligors = c.obligors_at.result; defaults = get_or c.counts_of-counts.result.now (40 + i) 0 } in
-    let holds : HoldsTable c.counts_of-counts.result.now = counts_lent c.requires c.counts_of-counts.ensures in
-    let same_table : table_in c.counts_of-counts.result.now ≡ table = counts_same words c.counts_of-counts.ensures in
-    let i_is : i ≡ g - 1 = ap (λ (n : ℕ). n - 1) number in
-    let inside : i < length t = omega (arith, i_is, from, to) in
-    let at_is : at ≡ counts_of_lem (grade_numbered t g) = read_counts c.counts_of-counts.result.now i g _ t c.obligors_at.ensures holds same_table i_is inside in
-    let checked : c.fault-number.result ≡ fault (firm_checks c.args.event (grade_of at) (obligors_in t)) = c.fault-number.ensures ∙ ap (λ (u : Table). fault (firm_checks c.args.event (grade_of at) (obligors_in u))) same_table in
-    let fault_is : c.fault-number.result ≡ event_fault c.args.event g t = event-fault c.args.event g t c.requires.sound from to at at_is c.fault-number.result checked in
-    let accepted : event_fault c.args.event g t ≡ 0 = sym fault_is ∙ c.if-number-ne0.false in
-    let stored : set (set words i c.after-after.result.obligors.0) (40 + i) c.after-after.result.defaults
-    ≡ words_of (place_of (table_after c.args.event g t)) ++ list_of t = stored_counts words i g t c.args.event c.after-after.result
-    c.requires.sound c.requires.exact i_is inside
-    (after_counts c.args.event g t c.requires.sound from to at at_is c.after-after.ensures) in
-    let sound : Sound (table_after c.args.event g t) = event_sound c.args.event g t c.requires.sound accepted in
-    let u = table_after c.args.event g t in
-    let anew = list_anew t u (length-after c.args.event g t) in record {
-      value = sym accepted;
-      words_after = pooled_anew u sound (list_of t) stored c.pool_anew.ensures ∙ ap (λ (l : List ℕ). words_of (place_of u) ++ l) anew;
-    }
+pub returns-clause-words_after : goal.returns-clause-words_after
+returns-clause-words_after c =
+    let a = (goal.at.returns-clause-words_after c).After-after-after in
+    let t = table_in (words a) in
+    pooled_anew (after a) (sound a) (list_of t) (is_stored a) c.pool_anew.ensures
+    ∙ ap (λ (l : List ℕ). words_of (place_of (after a)) ++ l) (list_anew t (after a) (length-after c.args.event c.args.grade t))

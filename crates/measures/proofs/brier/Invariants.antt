@@ -17,6 +17,3 @@ pub record Summed (p : Place) (i : ℕ) (n : Obligors) (sum : ℕ) : Type 0 wher
 
 abbrev pub invariant-loop-i : goal.invariant-loop-i
 invariant-loop-i l = Summed (place_in l.place) l.i l.all l.sum
-
-abbrev pub decreases-loop-i : goal.decreases-loop-i
-decreases-loop-i l = l.i

@@ -18,6 +18,3 @@ pub record Passed (p : Place) (i d c x : ℕ) (s : Survivors) : Type 0 where
 
 abbrev pub invariant-loop-i : goal.invariant-loop-i
 invariant-loop-i l = Passed (place_in l.place) l.i l.defaulted l.concordant l.discordant l.survivors
-
-abbrev pub decreases-loop-i : goal.decreases-loop-i
-decreases-loop-i l = l.i

@@ -1,6 +1,6 @@
 -- `farthest` meets its contract. The invariant: at grade i the cutoffs that turn away no better grade have been tried.
-use Prim.Native.Nat.{ℕ, ◌+◌, ◌-◌, ◌*◌}
-use mathlib.Core.Path.{◌≡◌, sym, ap}
+use Prim.Native.Nat.{ℕ, ◌+◌, ◌-◌}
+use mathlib.Core.Path.{◌≡◌, sym, ap, ◌∙◌}
 use native.Mathlib.Nat.{sub_self, zero-mul}
 use native.Mathlib.Omega.{arith}
 use lib.ListN.{length}
@@ -9,13 +9,15 @@ use Rattle.table.specs.declared.Place.{Place}
 use Rattle.table.specs.Table.{Table, defaults_in, survivors_in}
 use Rattle.table.specs.Place.{table_of}
 use Rattle.table.specs.Words.{place_in}
-use Rattle.table.proofs.Suffix.{suffix, suffix_end, length_grades}
-use Rattle.table.proofs.Words.{Turn, turn}
+use Rattle.table.proofs.Signed.{size-of}
+use Rattle.table.proofs.Suffix.{suffix_end, length_grades}
+use Rattle.table.proofs.Words.{turn}
 use Rattle.cutoff.specs.Best.{best}
 use Rattle.measures.specs.Measures.{height}
 use Rattle.measures.specs.Private.{farthest_of}
 use Rattle.measures.proofs.Cutoffs.{turned_none}
 use Rattle.measures.proofs.farthest.Invariants.{Tried, p, more_curve, more_diagonal, few_curve, Next, next, taken, left}
+use Rattle.measures.proofs.farthest.Goals.{After-pairs_of-diagonal}
 use Rattle.measures.proofs.farthest.Goals as goal
 
 none : (t : Table) → pos 0 ≡ height t 0
@@ -44,87 +46,43 @@ loop-i-init c =
       distance = rw sub_self (ap nat_abs (none (table_of p)));
     })
 
-pub overflow_add-d : goal.overflow_add-d
-overflow_add-d c =
-    let at : Turn c.args.place.now c.loop-i.i = turn _ _ c.requires.holds_table c.loop-i-test.true c.loop-i.invariant.inside in
-    let f = at in omega arith
-
-pub offset_bounds-place-i : goal.offset_bounds-place-i
-offset_bounds-place-i c =
-    let at : Turn c.args.place.now c.loop-i.i = turn _ _ c.requires.holds_table c.loop-i-test.true c.loop-i.invariant.inside in
-    let f = at in omega arith
-
-pub bounds-place-i : goal.bounds-place-i
-bounds-place-i c =
-    let at : Turn c.args.place.now c.loop-i.i = turn _ _ c.requires.holds_table c.loop-i-test.true c.loop-i.invariant.inside in
-    let f = at in omega arith
-
 pub overflow_add-curve : goal.overflow_add-curve
 overflow_add-curve c =
-    let at : Turn c.args.place.now c.loop-i.i = turn _ _ c.requires.holds_table c.loop-i-test.true c.loop-i.invariant.inside in
-    let curve-is : let p = place_in c.args.place.now in c.loop-i.curve + c.pairs_of-curve.result ≡ defaults_in (suffix p (c.loop-i.i - 1)) * survivors_in (table_of p) = let pre = c.requires in
-    more_curve pre.holds_table.sound at c.loop-i.invariant pre.all_survivors c.pairs_of-curve.ensures in
-    omega (arith, few_curve c.requires.holds_table.sound at c.loop-i.invariant curve-is)
+    let pre = c.requires in
+    let f = turn _ _ pre.holds_table c.loop-i-test.true c.loop-i.invariant.inside in
+    let sound = pre.holds_table.sound in
+    let is = more_curve sound f c.loop-i.invariant pre.all_survivors c.pairs_of-curve.ensures in
+    omega (arith, few_curve sound f c.loop-i.invariant is)
 
-pub obligors_at-requires : goal.obligors_at-requires
-obligors_at-requires c =
-    let at : Turn c.args.place.now c.loop-i.i = turn _ _ c.requires.holds_table c.loop-i-test.true c.loop-i.invariant.inside in
-    let f = at in omega arith
-
-pub survivors-requires : goal.survivors-requires
-survivors-requires c =
-    let at : Turn c.args.place.now c.loop-i.i = turn _ _ c.requires.holds_table c.loop-i-test.true c.loop-i.invariant.inside in
-    let f = at in omega (arith, c.obligors_at.ensures)
+-- The turn adds its grade to the curve and to the diagonal.
+reached : (c : After-pairs_of-diagonal)
+    → Next (place_in c.args.place.now) c.loop-i.i (c.loop-i.curve + c.pairs_of-curve.result) (c.loop-i.diagonal + c.pairs_of-diagonal.result)
+reached c =
+    let pre = c.requires in
+    let f = turn _ _ pre.holds_table c.loop-i-test.true c.loop-i.invariant.inside in
+    let sound = pre.holds_table.sound in
+    next sound c.loop-i-test.true f c.loop-i.invariant (more_curve sound f c.loop-i.invariant pre.all_survivors c.pairs_of-curve.ensures)
+    (more_diagonal sound f c.loop-i.invariant pre.all_defaults (omega (arith, c.survivors.ensures, c.obligors_at.ensures))
+    c.pairs_of-diagonal.ensures)
 
 pub overflow_add-diagonal : goal.overflow_add-diagonal
-overflow_add-diagonal c =
-    let at : Turn c.args.place.now c.loop-i.i = turn _ _ c.requires.holds_table c.loop-i-test.true c.loop-i.invariant.inside in
-    let curve-is : let p = place_in c.args.place.now in c.loop-i.curve + c.pairs_of-curve.result ≡ defaults_in (suffix p (c.loop-i.i - 1)) * survivors_in (table_of p) = let pre = c.requires in
-    more_curve pre.holds_table.sound at c.loop-i.invariant pre.all_survivors c.pairs_of-curve.ensures in
-    let diagonal-is : let p = place_in c.args.place.now in c.loop-i.diagonal + c.pairs_of-diagonal.result ≡ survivors_in (suffix p (c.loop-i.i - 1)) * defaults_in (table_of p) = let pre = c.requires in
-    let f = at in
-    more_diagonal pre.holds_table.sound f c.loop-i.invariant pre.all_defaults (omega (arith, c.survivors.ensures, c.obligors_at.ensures)) c.pairs_of-diagonal.ensures in
-    let reached : Next (place_in c.args.place.now) c.loop-i.i (c.loop-i.curve + c.pairs_of-curve.result) (c.loop-i.diagonal + c.pairs_of-diagonal.result) = next c.requires.holds_table.sound c.loop-i-test.true at c.loop-i.invariant curve-is diagonal-is in
-    let n = reached in omega (arith, n.small_b)
+overflow_add-diagonal c = let n = reached (goal.at.overflow_add-diagonal c).After-pairs_of-diagonal in omega (arith, n.small_b)
 
 pub difference-height-requires : goal.difference-height-requires
 difference-height-requires c =
-    let at : Turn c.args.place.now c.loop-i.i = turn _ _ c.requires.holds_table c.loop-i-test.true c.loop-i.invariant.inside in
-    let curve-is : let p = place_in c.args.place.now in c.loop-i.curve + c.pairs_of-curve.result ≡ defaults_in (suffix p (c.loop-i.i - 1)) * survivors_in (table_of p) = let pre = c.requires in
-    more_curve pre.holds_table.sound at c.loop-i.invariant pre.all_survivors c.pairs_of-curve.ensures in
-    let diagonal-is : let p = place_in c.args.place.now in c.loop-i.diagonal + c.pairs_of-diagonal.result ≡ survivors_in (suffix p (c.loop-i.i - 1)) * defaults_in (table_of p) = let pre = c.requires in
-    let f = at in
-    more_diagonal pre.holds_table.sound f c.loop-i.invariant pre.all_defaults (omega (arith, c.survivors.ensures, c.obligors_at.ensures)) c.pairs_of-diagonal.ensures in
-    let reached : Next (place_in c.args.place.now) c.loop-i.i (c.loop-i.curve + c.pairs_of-curve.result) (c.loop-i.diagonal + c.pairs_of-diagonal.result) = next c.requires.holds_table.sound c.loop-i-test.true at c.loop-i.invariant curve-is diagonal-is in
-    let n = reached in (n.small_a, n.small_b)
-
-pub overflow_cast-cutoff : goal.overflow_cast-cutoff
-overflow_cast-cutoff c =
-    let at : Turn c.args.place.now c.loop-i.i = turn _ _ c.requires.holds_table c.loop-i-test.true c.loop-i.invariant.inside in
-    let f = at in omega arith
+    let n = reached (goal.at.difference-height-requires c).After-pairs_of-diagonal in
+    (omega (arith, n.small_a), omega (arith, n.small_b))
 
 pub loop-i-preserved-then-distance-here : goal.loop-i-preserved-then-distance-here
 loop-i-preserved-then-distance-here c =
-    let at : Turn c.args.place.now c.loop-i.i = turn _ _ c.requires.holds_table c.loop-i-test.true c.loop-i.invariant.inside in
-    let curve-is : let p = place_in c.args.place.now in c.loop-i.curve + c.pairs_of-curve.result ≡ defaults_in (suffix p (c.loop-i.i - 1)) * survivors_in (table_of p) = let pre = c.requires in
-    more_curve pre.holds_table.sound at c.loop-i.invariant pre.all_survivors c.pairs_of-curve.ensures in
-    let diagonal-is : let p = place_in c.args.place.now in c.loop-i.diagonal + c.pairs_of-diagonal.result ≡ survivors_in (suffix p (c.loop-i.i - 1)) * defaults_in (table_of p) = let pre = c.requires in
-    let f = at in
-    more_diagonal pre.holds_table.sound f c.loop-i.invariant pre.all_defaults (omega (arith, c.survivors.ensures, c.obligors_at.ensures)) c.pairs_of-diagonal.ensures in
-    let reached : Next (place_in c.args.place.now) c.loop-i.i (c.loop-i.curve + c.pairs_of-curve.result) (c.loop-i.diagonal + c.pairs_of-diagonal.result) = next c.requires.holds_table.sound c.loop-i-test.true at c.loop-i.invariant curve-is diagonal-is in
-    rw c.grades_of-grades.ensures
-    (taken reached c.loop-i.invariant c.apart-here.ensures c.if-distance-here.true c.difference-height.result c.difference-height.ensures)
+    let n = reached (goal.at.loop-i-preserved-then-distance-here c).After-pairs_of-diagonal in
+    let here = c.abs_diff-here.ensures ∙ sym (size-of _ _) in
+    rw c.grades_of-grades.ensures (taken n c.loop-i.invariant here c.if-distance-here.true c.difference-height.result c.difference-height.ensures)
 
 pub loop-i-preserved : goal.loop-i-preserved
 loop-i-preserved c =
-    let at : Turn c.args.place.now c.loop-i.i = turn _ _ c.requires.holds_table c.loop-i-test.true c.loop-i.invariant.inside in
-    let curve-is : let p = place_in c.args.place.now in c.loop-i.curve + c.pairs_of-curve.result ≡ defaults_in (suffix p (c.loop-i.i - 1)) * survivors_in (table_of p) = let pre = c.requires in
-    more_curve pre.holds_table.sound at c.loop-i.invariant pre.all_survivors c.pairs_of-curve.ensures in
-    let diagonal-is : let p = place_in c.args.place.now in c.loop-i.diagonal + c.pairs_of-diagonal.result ≡ survivors_in (suffix p (c.loop-i.i - 1)) * defaults_in (table_of p) = let pre = c.requires in
-    let f = at in
-    more_diagonal pre.holds_table.sound f c.loop-i.invariant pre.all_defaults (omega (arith, c.survivors.ensures, c.obligors_at.ensures)) c.pairs_of-diagonal.ensures in
-    let reached : Next (place_in c.args.place.now) c.loop-i.i (c.loop-i.curve + c.pairs_of-curve.result) (c.loop-i.diagonal + c.pairs_of-diagonal.result) = next c.requires.holds_table.sound c.loop-i-test.true at c.loop-i.invariant curve-is diagonal-is in
-    left reached c.loop-i.invariant c.apart-here.ensures c.if-distance-here.false
+    let n = reached (goal.at.loop-i-preserved c).After-pairs_of-diagonal in
+    left n c.loop-i.invariant (c.abs_diff-here.ensures ∙ sym (size-of _ _)) c.if-distance-here.false
 
 pub returns : goal.returns
 returns c = farthest_is _ _ _ _ _ _ _ (omega arith) c.loop-i.invariant

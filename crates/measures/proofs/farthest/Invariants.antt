@@ -15,12 +15,12 @@ use Rattle.table.specs.Table.{Sound, survivors, defaults_in, survivors_in}
 use Rattle.table.specs.Place.{grade_at, table_of}
 use Rattle.table.specs.Words.{place_in}
 use Rattle.table.proofs.Arithmetic.{counts_le}
+use Rattle.table.proofs.Signed.{difference_fits}
 use Rattle.table.proofs.Suffix.{suffix, small, sound_small, few_counts}
 use Rattle.table.proofs.Words.{Turn}
 use Rattle.cutoff.specs.Best.{best}
 use Rattle.measures.specs.Measures.{height, farther}
 use Rattle.measures.proofs.Cutoffs.{turned_suffix}
-use Rattle.measures.proofs.Signed.{difference_fits}
 use Rattle.measures.proofs.farthest.Given as goal
 
 -- the best of the cutoffs that turn away no better grade than i
@@ -107,7 +107,7 @@ module _ {p : Place} {i a b a₀ b₀ g far here : ℕ} {h : ℤ} (n : Next p i 
   pub taken : far < here → (z : ℤ) → z ≡ sub_ℕ a b → Tried p (i - 1) a b (p.grades - (i - 1)) (to_z w64 (of_z w64 z)) here
   taken test z is =
       let it = best_new (height (table_of p)) n.number t.distance size test in
-      let signed = to_z-of_z w64 z (rw is (difference_fits n.small_a n.small_b)) ∙ is ∙ n.here in
+      let signed = to_z-of_z w64 z (rw is (difference_fits (omega (arith, n.small_a)) (omega (arith, n.small_b)))) ∙ is ∙ n.here in
       record { inside = n.inside; curve = n.curve; diagonal = n.diagonal; cutoff = rw it; high = rw it signed; distance = rw it size }
 
   pub left : here ≤ far → Tried p (i - 1) a b g h far
@@ -117,6 +117,3 @@ module _ {p : Place} {i a b a₀ b₀ g far here : ℕ} {h : ℤ} (n : Next p i 
 
 abbrev pub invariant-loop-i : goal.invariant-loop-i
 invariant-loop-i l = Tried (place_in l.place) l.i l.curve l.diagonal l.cutoff l.height l.distance
-
-abbrev pub decreases-loop-i : goal.decreases-loop-i
-decreases-loop-i l = l.i

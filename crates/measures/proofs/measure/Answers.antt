@@ -13,6 +13,7 @@ use Rattle.table.specs.Table.{Table, defaults_in, survivors_in, obligors_in}
 use Rattle.table.specs.Words.{table_in}
 use Rattle.table.specs.Counts.{capped}
 use Rattle.table.proofs.Arithmetic.{counts_le}
+use Rattle.table.proofs.Signed.{difference_fits}
 use Rattle.table.proofs.Suffix.{Small, sound_small, few_counts}
 use Rattle.measures.specs.declared.PairCounts.{PairCounts}
 use Rattle.measures.specs.declared.FarthestCutoff.{FarthestCutoff}
@@ -20,7 +21,7 @@ use Rattle.measures.specs.Pairs.{concordant, discordant, tied}
 use Rattle.measures.specs.Measures.{pairs, measures_of}
 use Rattle.measures.specs.Private.{pair_counts_of, farthest_of}
 use Rattle.measures.proofs.Pairs.{every_pair, few_pairs}
-use Rattle.measures.proofs.Signed.{difference_fits}
+use Rattle.measures.proofs.measure.Goals.{After-profile_of-profile}
 use Rattle.measures.proofs.measure.Goals as goal
 
 -- What is known of the counts m, of a, D S, and of b, D N.
@@ -80,62 +81,37 @@ farthest-top-requires c =
     let both = totals (table_in c.args.place.now) c.count_pairs-counts.ensures in
     record { holds_table = c.requires; all_defaults = both.0; all_survivors = both.1 }
 
+at_hand : (c : After-profile_of-profile)
+    → Known (table_in c.args.place.now) c.count_pairs-counts.result c.pairs_of-pairs.result c.profile_of-profile.result
+at_hand c =
+    known (sound_small c.requires.sound) c.count_pairs-counts.ensures c.with_defaults.ensures c.pairs_of-pairs.ensures c.profile_of-profile.ensures
+
 pub difference-requires : goal.difference-requires
-difference-requires c =
-    let at : let a = c.args in Known (table_in a.place.now) c.count_pairs-counts.result c.pairs_of-pairs.result c.profile_of-profile.result = known (sound_small c.requires.sound)
-    c.count_pairs-counts.ensures
-    c.with_defaults.ensures c.pairs_of-pairs.ensures c.profile_of-profile.ensures in
-    let k = at in omega arith
+difference-requires c = let k = at_hand (goal.at.difference-requires c).After-profile_of-profile in omega arith
 
 pub overflow_add-result : goal.overflow_add-result
-overflow_add-result c =
-    let at : let a = c.args in Known (table_in a.place.now) c.count_pairs-counts.result c.pairs_of-pairs.result c.profile_of-profile.result = known (sound_small c.requires.sound)
-    c.count_pairs-counts.ensures
-    c.with_defaults.ensures c.pairs_of-pairs.ensures c.profile_of-profile.ensures in
-    let k = at in omega arith
+overflow_add-result c = let k = at_hand (goal.at.overflow_add-result c).After-profile_of-profile in omega arith
 
 pub overflow_sub-result : goal.overflow_sub-result
-overflow_sub-result c =
-    let at : let a = c.args in Known (table_in a.place.now) c.count_pairs-counts.result c.pairs_of-pairs.result c.profile_of-profile.result = known (sound_small c.requires.sound)
-    c.count_pairs-counts.ensures
-    c.with_defaults.ensures c.pairs_of-pairs.ensures c.profile_of-profile.ensures in
-    let k = at in omega arith
+overflow_sub-result c = let k = at_hand (goal.at.overflow_sub-result c).After-profile_of-profile in omega arith
 
 pub overflow_mul-result : goal.overflow_mul-result
-overflow_mul-result c =
-    let at : let a = c.args in Known (table_in a.place.now) c.count_pairs-counts.result c.pairs_of-pairs.result c.profile_of-profile.result = known (sound_small c.requires.sound)
-    c.count_pairs-counts.ensures
-    c.with_defaults.ensures c.pairs_of-pairs.ensures c.profile_of-profile.ensures in
-    let k = at in omega arith
+overflow_mul-result c = let k = at_hand (goal.at.overflow_mul-result c).After-profile_of-profile in omega arith
 
 pub overflow_add-result-2 : goal.overflow_add-result-2
-overflow_add-result-2 c =
-    let at : let a = c.args in Known (table_in a.place.now) c.count_pairs-counts.result c.pairs_of-pairs.result c.profile_of-profile.result = known (sound_small c.requires.sound)
-    c.count_pairs-counts.ensures
-    c.with_defaults.ensures c.pairs_of-pairs.ensures c.profile_of-profile.ensures in
-    let k = at in omega arith
+overflow_add-result-2 c = let k = at_hand (goal.at.overflow_add-result-2 c).After-profile_of-profile in omega arith
 
 pub overflow_sub-result-2 : goal.overflow_sub-result-2
-overflow_sub-result-2 c =
-    let at : let a = c.args in Known (table_in a.place.now) c.count_pairs-counts.result c.pairs_of-pairs.result c.profile_of-profile.result = known (sound_small c.requires.sound)
-    c.count_pairs-counts.ensures
-    c.with_defaults.ensures c.pairs_of-pairs.ensures c.profile_of-profile.ensures in
-    let k = at in omega arith
+overflow_sub-result-2 c = let k = at_hand (goal.at.overflow_sub-result-2 c).After-profile_of-profile in omega arith
 
 pub overflow_mul-result-2 : goal.overflow_mul-result-2
-overflow_mul-result-2 c =
-    let at : let a = c.args in Known (table_in a.place.now) c.count_pairs-counts.result c.pairs_of-pairs.result c.profile_of-profile.result = known (sound_small c.requires.sound)
-    c.count_pairs-counts.ensures
-    c.with_defaults.ensures c.pairs_of-pairs.ensures c.profile_of-profile.ensures in
-    let k = at in omega arith
+overflow_mul-result-2 c = let k = at_hand (goal.at.overflow_mul-result-2 c).After-profile_of-profile in omega arith
 
 pub returns : goal.returns
 returns c =
-    let at : let a = c.args in Known (table_in a.place.now) c.count_pairs-counts.result c.pairs_of-pairs.result c.profile_of-profile.result = known (sound_small c.requires.sound)
-    c.count_pairs-counts.ensures
-    c.with_defaults.ensures c.pairs_of-pairs.ensures c.profile_of-profile.ensures in
+    let k = at_hand (goal.at.returns c).After-profile_of-profile in
     let top = c.farthest-top in
-    let k = at in
-    let z : SFits w64 c.difference.result = rw c.difference.ensures (difference_fits k.few_concordant k.few_discordant) in
+    let few : (m : ℕ) → m ≤ 1_000_000_000_000 → m ≤ 1_000_000_000_000_000_000 = λ m h. omega arith in
+    let z : SFits w64 c.difference.result = rw c.difference.ensures (difference_fits (few _ k.few_concordant) (few _ k.few_discordant)) in
     let w : SFits w64 top.result.height = search rules in
     measures_are k _ top.ensures _ _ (to_z-of_z w64 _ z ∙ c.difference.ensures) (to_z-of_z w64 _ w)

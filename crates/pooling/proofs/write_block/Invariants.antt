@@ -1,5 +1,5 @@
--- `write_block` meets its contract. The invariant: from `at` on stand k grades of the block, and then what stood from `end` on.
-use Prim.Native.Nat.{ℕ, ◌+◌, ◌-◌, ◌*◌, ◌≤◌}
+-- `write_block` meets its contract. The invariant: from `at` on stand as many grades of the block as were written, and then what stood from `end` on.
+use Prim.Native.Nat.{ℕ, ◌+◌, ◌*◌, ◌≤◌}
 use mathlib.Core.Path.{◌≡◌}
 use mathlib.Core.List.{List, ◌++◌}
 use lib.ListN.{length, take, drop}
@@ -13,8 +13,5 @@ pub record Written (x : Block) (end : ℕ) (out₀ out : List ℕ) (at k : ℕ) 
   pub within : k ≤ x.grades
   pub same : out ≡ take at out₀ ++ grades_of_lem x k (drop end out₀)
 
-abbrev pub invariant-loop-k : goal.invariant-loop-k
-invariant-loop-k l = Written l.x l.end l.initial.out l.out l.at l.k
-
-abbrev pub decreases-loop-k : goal.decreases-loop-k
-decreases-loop-k l = l.x.grades - l.k
+abbrev pub invariant-loop : goal.invariant-loop
+invariant-loop l = Written l.x l.end-2 l.initial.out l.out l.at l.counter

@@ -3,4 +3,4 @@ use Rattle.desk.specs.Desk.{SoundDesk}
 use Rattle.replay.proofs.main.Given as goal
 
 abbrev pub invariant-loop : goal.invariant-loop
-invariant-loop l = SoundDesk l.s.desk
+invariant-loop l = SoundDesk l.desk

@@ -1,4 +1,4 @@
--- `best_end` meets its contract. The invariant: the ends up to e have been tried.
+-- `best_end` meets its contract. The invariant: the ends before e have been tried.
 use Prim.Native.Nat.{ℕ, suc, ◌-◌, ◌≤◌, ◌<◌}
 use mathlib.Core.Path.{◌≡◌}
 use Rattle.shorter.specs.Private.{top_from, by}
@@ -12,7 +12,4 @@ pub record Tried (f : ℕ → ℕ) (i last e end value : ℕ) : Type 0 where
   pub worth : value ≡ f end
 
 abbrev pub invariant-loop-e : goal.invariant-loop-e
-invariant-loop-e l = Tried (by l.sums l.values l.i) l.i l.last l.e l.end l.value
-
-abbrev pub decreases-loop-e : goal.decreases-loop-e
-decreases-loop-e l = l.last - l.e
+invariant-loop-e l = Tried (by l.sums l.values l.i) l.i l.last (l.e - 1) l.end l.value

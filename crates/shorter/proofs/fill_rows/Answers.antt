@@ -5,27 +5,19 @@ use native.Mathlib.Numerals.{add-one}
 use native.Mathlib.Omega.{arith}
 use Rattle.shorter.proofs.fill_rows.Goals as goal
 
-pub last_runs-requires : goal.last_runs-requires
-last_runs-requires c =
-    record {
-      size = c.requires.size;
-      sums = c.requires.sums;
-      room = c.requires.room.0;
-    }
-
 pub loop-j-init : goal.loop-j-init
 loop-j-init c =
     record {
       within = omega arith;
       values = c.last_runs.ensures;
-      choices = record { long = c.requires.room.1; at = λ h i l need. absurd (omega arith) };
+      choices = record { long = c.told-choices; wide = c.requires.wide; at = λ h i l need. absurd (omega arith) };
     }
 
 pub next_row-requires : goal.next_row-requires
 next_row-requires c =
     let w = c.loop-j.invariant in
     let pre = c.requires in record {
-      size = (omega arith, pre.size);
+      row = omega arith;
       sums = pre.sums;
       rows = (w.values, w.choices);
     }

@@ -7,10 +7,9 @@ use Rattle.shorter.proofs.next_row.Goals as goal
 pub loop-i-init : goal.loop-i-init
 loop-i-init c =
     let i = c.args.size.runs - 2 - c.args.j in
-    let last = c.row_end-stop.ensures in
+    let last = c.row_end-i-end.ensures in
     record {
       more = omega arith;
-      grades = omega arith;
       few = last.few;
       from = omega arith;
       to = omega (arith, last.all i (record { before = omega arith; behind = omega arith; first = λ x. omega arith }));
@@ -43,7 +42,7 @@ loop-i-preserved c =
 pub returns : goal.returns
 returns c =
     let f = c.loop-i.invariant in
-    let last = c.row_end-stop.ensures in record {
+    let last = c.row_end-i-end.ensures in record {
       values = all_values last f c.loop-i-test.false;
       choices = all_choices last f c.loop-i-test.false;
     }

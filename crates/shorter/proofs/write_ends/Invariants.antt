@@ -7,7 +7,7 @@ use Rattle.shorter.specs.Private.{ends_in, Leads}
 use Rattle.shorter.proofs.write_ends.Given as goal
 
 -- The ends before `at` are written, and the choices lead on from grade i.
-pub record Written (c : List ℕ) (m k : ℕ) (out₀ : List ℕ) (i at : ℕ) (out : List ℕ) : Type 0 where
+pub record Written (c : List (List ℕ)) (m k : ℕ) (out₀ : List ℕ) (i at : ℕ) (out : List ℕ) : Type 0 where
   pub some : at < m
   pub leads : Leads c (m - 1 - at) i
   pub long : length out ≡ length out₀
@@ -16,6 +16,3 @@ pub record Written (c : List ℕ) (m k : ℕ) (out₀ : List ℕ) (i at : ℕ) (
 
 abbrev pub invariant-loop-at : goal.invariant-loop-at
 invariant-loop-at l = Written l.choices l.size.runs l.size.grades l.initial.out l.i l.at l.out
-
-abbrev pub decreases-loop-at : goal.decreases-loop-at
-decreases-loop-at l = l.size.runs - l.at

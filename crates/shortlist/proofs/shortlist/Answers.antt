@@ -1,106 +1,57 @@
 -- `shortlist` meets its contract: each way out has the number of the check that ends there, or the list.
-use Prim.Native.Nat.{ℕ}
-use mathlib.Core.Path.{◌≡◌, sym, ap, ◌∙◌}
-use mathlib.Core.List.{List}
+use mathlib.Core.Path.{◌≡◌, sym, ◌∙◌}
 use native.Mathlib.Omega.{arith}
-use lib.ListN.{length}
-use Rattle.book.specs.Layout.{raters}
-use Rattle.book.specs.Reading.{all_tables, book_fault}
-use Rattle.book.proofs.Checks.{held_first}
-use Rattle.book.proofs.Whole.{Laid, laid}
-use Rattle.shortlist.specs.Shortlist.{listed}
+use Rattle.book.specs.Reading.{all_tables}
 use Rattle.shortlist.specs.Checks.{totals_fault_lem}
-use Rattle.shortlist.specs.Private.{beats, all_compared, unmarked}
-use Rattle.shortlist.proofs.Accepted.{Accepted, accepted}
-use Rattle.shortlist.proofs.Books.{book_some}
-use Rattle.shortlist.proofs.Answered.{book_totals, book_searchable, book_listed}
+use Rattle.shortlist.proofs.Loaded.{whole_laid, loaded, some_held, totals_as_read, searchable, listed_as_read}
 use Rattle.shortlist.proofs.Ended as ended
 use Rattle.shortlist.proofs.shortlist.Goals as goal
 
-pub returns-then-fault-ne0 : goal.returns-then-fault-ne0
-returns-then-fault-ne0 c =
-    let a = ended.in_book _ _ c.read_book-fault.ensures.value c.if-fault-ne0.true in
-    record { value = a.0; out_after = a.1 }
+pub returns-in_err-read_book : goal.returns-in_err-read_book
+returns-in_err-read_book c =
+    let a = ended.in_book c.args.book.now c.args.out.now _ _ c.from_residual.ensures.1 c.in_err-read_book.ensures.value in
+    record { value = a.value; out_after = a.out_after }
 
-pub raters_of-raters-requires : goal.raters_of-raters-requires
-unfolding book_fault
-raters_of-raters-requires c =
-    let book : List ℕ = c.args.book.now in
-    let whole : book_fault book ≡ 0 = sym c.read_book-fault.ensures.value ∙ c.if-fault-ne0.false in
-    let head : Laid book = laid book (held_first _ _ whole).0 in
-    omega (arith, head.long)
+pub raters_of-requires : goal.raters_of-requires
+raters_of-requires c = let l = whole_laid c.args.book.now (sym c.in_ok-read_book.ensures.value) in omega (arith, l.long)
 
-pub totals_fault-totals-requires : goal.totals_fault-totals-requires
-unfolding book_fault
-totals_fault-totals-requires c =
-    let book : List ℕ = c.args.book.now in
-    let whole : book_fault book ≡ 0 = sym c.read_book-fault.ensures.value ∙ c.if-fault-ne0.false in
-    let head : Laid book = laid book (held_first _ _ whole).0 in
-    (c.read_book-fault.ensures.length, omega (arith, c.raters_of-raters.ensures.0, head.few))
+pub slice_bounds-room-end : goal.slice_bounds-room-end
+slice_bounds-room-end c =
+    let l = whole_laid c.args.book.now (sym c.in_ok-read_book.ensures.value) in omega (arith, l.few, c.raters_of.ensures.0)
 
-pub returns-then-totals-ne0 : goal.returns-then-totals-ne0
-returns-then-totals-ne0 c =
-    let book : List ℕ = c.args.book.now in
-    let whole : book_fault book ≡ 0 = sym c.read_book-fault.ensures.value ∙ c.if-fault-ne0.false in
-    let totals : c.totals_fault-totals.result ≡ totals_fault_lem (all_tables book) =
-    rw c.raters_of-raters.ensures.0 at c.totals_fault-totals.ensures ∙ book_totals book _ whole (c.read_book-fault.ensures.scales c.if-fault-ne0.false) in
-    let a = ended.in_totals _ _ whole totals c.if-totals-ne0.true in
-    record { value = a.0; out_after = a.1 }
+pub slice_bounds-held-end : goal.slice_bounds-held-end
+slice_bounds-held-end c =
+    let k = loaded c.args.book.now _ c.raters_of.ensures.0 c.in_ok-read_book.ensures.value c.read_book.array_long c.in_ok-read_book.ensures.scales in
+    c.raters_of.ensures.0 ∙ sym k.long
 
-pub returns-then-out-raters : goal.returns-then-out-raters
-returns-then-out-raters c =
-    let book : List ℕ = c.args.book.now in
-    let whole : book_fault book ≡ 0 = sym c.read_book-fault.ensures.value ∙ c.if-fault-ne0.false in
-    let totals : c.totals_fault-totals.result ≡ totals_fault_lem (all_tables book) =
-    rw c.raters_of-raters.ensures.0 at c.totals_fault-totals.ensures ∙ book_totals book _ whole (c.read_book-fault.ensures.scales c.if-fault-ne0.false) in
-    let no_totals : totals_fault_lem (all_tables book) ≡ 0 = sym totals ∙ c.if-totals-ne0.false in
-    let r = c.raters_of-raters.ensures.0 in
-    let a = ended.too_short _ _ whole no_totals (omega (arith, c.if-out-raters.true, r)) in
-    record { value = a.0; out_after = a.1 }
+pub check_totals-requires : goal.check_totals-requires
+check_totals-requires c =
+    some_held (loaded c.args.book.now _ c.raters_of.ensures.0 c.in_ok-read_book.ensures.value c.read_book.array_long c.in_ok-read_book.ensures.scales)
+
+pub returns-in_err-check_totals : goal.returns-in_err-check_totals
+returns-in_err-check_totals c =
+    let k = loaded c.args.book.now _ c.raters_of.ensures.0 c.in_ok-read_book.ensures.value c.read_book.array_long c.in_ok-read_book.ensures.scales in
+    let a = ended.in_totals c.args.book.now c.args.out.now k.whole _ _ c.from_residual-in_err-check_totals.ensures.1
+    (c.in_err-check_totals.ensures ∙ totals_as_read k) in
+    record { value = a.value; out_after = a.out_after }
+
+pub returns-then-out-held : goal.returns-then-out-held
+returns-then-out-held c =
+    let k = loaded c.args.book.now _ c.raters_of.ensures.0 c.in_ok-read_book.ensures.value c.read_book.array_long c.in_ok-read_book.ensures.scales in
+    let totals : totals_fault_lem (all_tables c.args.book.now) ≡ 0 = sym (c.in_ok-check_totals.ensures ∙ totals_as_read k) in
+    let a = ended.too_short c.args.book.now c.args.out.now k.whole totals (omega (arith, k.long, c.if-out-held.true)) in
+    record { value = a.value; out_after = a.out_after }
 
 pub list_unbeaten-requires : goal.list_unbeaten-requires
 list_unbeaten-requires c =
-    let book : List ℕ = c.args.book.now in
-    let whole : book_fault book ≡ 0 = sym c.read_book-fault.ensures.value ∙ c.if-fault-ne0.false in
-    let totals : c.totals_fault-totals.result ≡ totals_fault_lem (all_tables book) =
-    rw c.raters_of-raters.ensures.0 at c.totals_fault-totals.ensures ∙ book_totals book _ whole (c.read_book-fault.ensures.scales c.if-fault-ne0.false) in
-    let no_totals : totals_fault_lem (all_tables book) ≡ 0 = sym totals ∙ c.if-totals-ne0.false in
-    let comparable : Accepted book = accepted book whole no_totals in
-    let scales : List ℕ = c.read_book-fault.new.held in
-    let r = c.raters_of-raters.ensures.0 in record {
-      scales = rw r (book_searchable book scales whole (c.read_book-fault.ensures.scales c.if-fault-ne0.false) c.read_book-fault.ensures.length comparable);
-      room = omega (arith, c.if-out-raters.false);
-    }
-
-pub overflow_cast-result : goal.overflow_cast-result
-unfolding book_fault
-overflow_cast-result c =
-    let book : List ℕ = c.args.book.now in
-    let whole : book_fault book ≡ 0 = sym c.read_book-fault.ensures.value ∙ c.if-fault-ne0.false in
-    let head : Laid book = laid book (held_first _ _ whole).0 in
-    let totals : c.totals_fault-totals.result ≡ totals_fault_lem (all_tables book) =
-    rw c.raters_of-raters.ensures.0 at c.totals_fault-totals.ensures ∙ book_totals book _ whole (c.read_book-fault.ensures.scales c.if-fault-ne0.false) in
-    let no_totals : totals_fault_lem (all_tables book) ≡ 0 = sym totals ∙ c.if-totals-ne0.false in
-    let comparable : Accepted book = accepted book whole no_totals in
-    let scales : List ℕ = c.read_book-fault.new.held in
-    let listed-is : unmarked (all_compared (beats scales) (raters book)) (raters book) ≡ listed (all_tables book) =
-    book_listed book scales whole (c.read_book-fault.ensures.scales c.if-fault-ne0.false) c.read_book-fault.ensures.length comparable in
-    let count : c.list_unbeaten.result ≡ length (listed (all_tables book)) =
-    rw c.raters_of-raters.ensures.0 at c.list_unbeaten.ensures.value ∙ ap length listed-is in
-    omega (arith, count, (book_some book comparable).1, head.few)
+    let k = loaded c.args.book.now _ c.raters_of.ensures.0 c.in_ok-read_book.ensures.value c.read_book.array_long c.in_ok-read_book.ensures.scales in
+    let totals : totals_fault_lem (all_tables c.args.book.now) ≡ 0 = sym (c.in_ok-check_totals.ensures ∙ totals_as_read k) in
+    record { scales = searchable k totals; room = c.if-out-held.false }
 
 pub returns : goal.returns
 returns c =
-    let book : List ℕ = c.args.book.now in
-    let whole : book_fault book ≡ 0 = sym c.read_book-fault.ensures.value ∙ c.if-fault-ne0.false in
-    let totals : c.totals_fault-totals.result ≡ totals_fault_lem (all_tables book) =
-    rw c.raters_of-raters.ensures.0 at c.totals_fault-totals.ensures ∙ book_totals book _ whole (c.read_book-fault.ensures.scales c.if-fault-ne0.false) in
-    let no_totals : totals_fault_lem (all_tables book) ≡ 0 = sym totals ∙ c.if-totals-ne0.false in
-    let comparable : Accepted book = accepted book whole no_totals in
-    let scales : List ℕ = c.read_book-fault.new.held in
-    let listed-is : unmarked (all_compared (beats scales) (raters book)) (raters book) ≡ listed (all_tables book) =
-    book_listed book scales whole (c.read_book-fault.ensures.scales c.if-fault-ne0.false) c.read_book-fault.ensures.length comparable in
-    let r = c.raters_of-raters.ensures.0 in
-    let a = ended.accepted _ _ whole no_totals (omega (arith, c.if-out-raters.false, r)) listed-is
-    (rw r at c.list_unbeaten.ensures.value) (rw r at c.list_unbeaten.ensures.out_after) in
-    record { value = a.0; out_after = a.1 }
+    let k = loaded c.args.book.now _ c.raters_of.ensures.0 c.in_ok-read_book.ensures.value c.read_book.array_long c.in_ok-read_book.ensures.scales in
+    let totals : totals_fault_lem (all_tables c.args.book.now) ≡ 0 = sym (c.in_ok-check_totals.ensures ∙ totals_as_read k) in
+    let a = ended.taken c.args.book.now c.args.out.now k.whole totals (omega (arith, k.long, c.if-out-held.false)) (listed_as_read k totals)
+    c.list_unbeaten.ensures.value c.list_unbeaten.ensures.out_after in
+    record { value = a.value; out_after = a.out_after }

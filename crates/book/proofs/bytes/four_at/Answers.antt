@@ -1,8 +1,10 @@
 -- `four_at` meets its contract.
-use borrow.Author.Rules.{rules}
-use Rattle.book.specs.Bytes.{four_at_lem}
+use Prim.Native.Nat.{◌+◌}
+use mathlib.Core.Path.{◌≡◌}
+use native.Mathlib.Omega.{arith}
+use Rattle.book.specs.Bytes.{two_at_lem, four_at_lem}
 use Rattle.book.proofs.bytes.four_at.Goals as goal
 
 pub returns : goal.returns
-unfolding four_at_lem
-returns c = search rules
+unfolding two_at_lem four_at_lem
+returns c = let e : c.args.i + 2 + 1 ≡ c.args.i + 3 = omega arith in rw e (omega arith)

@@ -1,96 +1,70 @@
 -- `read` meets its contract.
-use Prim.Native.Nat.{ℕ}
-use mathlib.Core.Path.{◌≡◌, refl, sym, ◌∙◌}
+use Prim.Native.Nat.{ℕ, ◌≤◌, ◌<◌}
+use mathlib.Core.Path.{◌≡◌, sym, ◌∙◌}
 use mathlib.Core.List.{List}
 use native.Mathlib.Omega.{arith}
-use borrow.Author.Rules.{rules}
+use Rattle.refusals.proofs.Refused.{number_positive, passed_on}
 use Rattle.book.specs.Checks.{fault}
-use Rattle.book.specs.Layout.{head_checks, rater_checks, tables_fault_lem}
+use Rattle.book.specs.Layout.{raters, head_checks, rater_checks, tables_fault_lem}
+use Rattle.book.specs.Rows.{table_of_rater, table_fault_lem}
 use Rattle.book.specs.Reading.{read_fault}
-use Rattle.book.proofs.Checks.{held, found, none, pass, over, stop, go}
+use Rattle.book.proofs.Checks.{held, found, none, pass, over, over_or, stop, go}
 use Rattle.book.proofs.Stands.{stands, Stands}
-use Rattle.book.proofs.Filled.{kept}
 use Rattle.book.proofs.reader.read.Goals as goal
 
-pub returns-then-head-ne0 : goal.returns-then-head-ne0
-unfolding read_fault
-returns-then-head-ne0 c =
-    record {
-      value = stop _ c.head_fault-head.ensures c.if-head-ne0.true;
-      place_after = kept c.head_fault-head.result _ _ c.if-head-ne0.true;
-    }
+-- What is read of rater j, stage by stage.
+module _ (b : List ℕ) (j : ℕ) where
+  headless : (n : ℕ) → 0 < n → n ≡ fault (head_checks b) → n ≡ read_fault b j
+  unfolding read_fault
+  headless n p e = stop _ e (λ z. omega arith)
 
-pub returns-then-j-lt1 : goal.returns-then-j-lt1
-unfolding read_fault rater_checks
-returns-then-j-lt1 c =
-    let bytes : List ℕ = c.args.book.now in
-    let headed : fault (head_checks bytes) ≡ 0 = sym c.head_fault-head.ensures ∙ c.if-head-ne0.false in
-    record {
-      value = go headed (stop _ (found (over (omega arith))) (λ z. omega arith));
-      place_after = refl;
-    }
+  unknown : 0 ≡ fault (head_checks b) → (1 ≤ j → raters b < j) → 4 ≡ read_fault b j
+  unfolding read_fault rater_checks
+  unknown head f = go (sym head) (stop _ (found (over_or (λ h. over (f h)))) (λ z. omega arith))
 
-pub raters_of-requires : goal.raters_of-requires
+  module _ (head : 0 ≡ fault (head_checks b)) (some : 1 ≤ j) (few : j ≤ raters b) where
+    asked : fault (rater_checks b j) ≡ 0
+    unfolding rater_checks
+    asked = sym (found (pass some (pass few none)))
+
+    cut : (n : ℕ) → 0 < n → n ≡ tables_fault_lem b → n ≡ read_fault b j
+    unfolding read_fault
+    cut n p e = go (sym head) (go asked (stop _ e (λ z. omega arith)))
+
+    module _ (laid : 0 ≡ tables_fault_lem b) where
+      standing : Stands b j
+      standing = stands _ _ (sym head) some few (sym laid)
+
+      rows : (n : ℕ) → n ≡ table_fault_lem (table_of_rater b j) → n ≡ read_fault b j
+      unfolding read_fault
+      rows n e = go (sym head) (go asked (go (sym laid) e))
+
+pub returns-in_err-check_head-clause-value : goal.returns-in_err-check_head-clause-value
+returns-in_err-check_head-clause-value c =
+    passed_on _ _ c.from_residual.ensures.1 ∙ headless _ _ _ (number_positive _) c.in_err-check_head.ensures
+
+pub returns-then-j-lt1-clause-value : goal.returns-then-j-lt1-clause-value
+returns-then-j-lt1-clause-value c = unknown _ _ c.in_ok-check_head.ensures (λ h. omega arith)
+
+pub raters_of-raters-requires : goal.raters_of-raters-requires
 unfolding head_checks
-raters_of-requires c =
-    let bytes : List ℕ = c.args.book.now in
-    let headed : fault (head_checks bytes) ≡ 0 = sym c.head_fault-head.ensures ∙ c.if-head-ne0.false in
-    let h = held _ headed in omega arith
+raters_of-raters-requires c = let h = held _ (sym c.in_ok-check_head.ensures) in omega arith
 
-pub returns-then-raters_of-j : goal.returns-then-raters_of-j
-unfolding read_fault rater_checks
-returns-then-raters_of-j c =
-    let bytes : List ℕ = c.args.book.now in
-    let headed : fault (head_checks bytes) ≡ 0 = sym c.head_fault-head.ensures ∙ c.if-head-ne0.false in
-    record {
-      value = go headed (stop _ (found (pass (omega arith) (over (omega arith)))) (λ z. omega arith));
-      place_after = refl;
-    }
-
-pub returns-then-tables-ne0 : goal.returns-then-tables-ne0
-unfolding read_fault rater_checks
-returns-then-tables-ne0 c =
-    let bytes : List ℕ = c.args.book.now in
-    let headed : fault (head_checks bytes) ≡ 0 = sym c.head_fault-head.ensures ∙ c.if-head-ne0.false in
-    let rater : ℕ = c.args.rater in
-    let asked : fault (rater_checks bytes rater) ≡ 0 = sym (found (pass (omega arith) (pass (omega arith) none))) in
-    record {
-      value = go headed (go asked (stop _ c.tables_fault-tables.ensures c.if-tables-ne0.true));
-      place_after = kept c.tables_fault-tables.result _ _ c.if-tables-ne0.true;
-    }
+pub returns-in_err-check_tables-clause-value : goal.returns-in_err-check_tables-clause-value
+returns-in_err-check_tables-clause-value c =
+    passed_on _ _ c.from_residual-in_err-check_tables.ensures.1
+    ∙ cut _ _ c.in_ok-check_head.ensures (omega arith) (omega arith) _ (number_positive _) c.in_err-check_tables.ensures
 
 pub start_of-requires : goal.start_of-requires
 start_of-requires c =
-    let bytes : List ℕ = c.args.book.now in
-    let rater : ℕ = c.args.rater in
-    let headed : fault (head_checks bytes) ≡ 0 = sym c.head_fault-head.ensures ∙ c.if-head-ne0.false in
-    let laid : tables_fault_lem bytes ≡ 0 = sym c.tables_fault-tables.ensures ∙ c.if-tables-ne0.false in
-    let standing : Stands bytes rater = stands _ _ headed (omega arith) (omega arith) laid in
-    let s = standing in (s.from, s.head)
+    let s = standing c.args.book.now c.args.rater c.in_ok-check_head.ensures (omega arith) (omega arith) c.in_ok-check_tables.ensures in
+    (s.from, s.head)
 
-pub fill-requires : goal.fill-requires
-fill-requires c =
-    let bytes : List ℕ = c.args.book.now in
-    let rater : ℕ = c.args.rater in
-    let headed : fault (head_checks bytes) ≡ 0 = sym c.head_fault-head.ensures ∙ c.if-head-ne0.false in
-    let laid : tables_fault_lem bytes ≡ 0 = sym c.tables_fault-tables.ensures ∙ c.if-tables-ne0.false in
-    let standing : Stands bytes rater = stands _ _ headed (omega arith) (omega arith) laid in
-    let s = standing in record {
-      inside = rw c.start_of.ensures (s.inside, s.few);
-      empty = search rules;
-    }
+pub fill-requires-clause-inside : goal.fill-requires-clause-inside
+fill-requires-clause-inside c =
+    let s = standing c.args.book.now c.args.rater c.in_ok-check_head.ensures (omega arith) (omega arith) c.in_ok-check_tables.ensures in
+    rw c.start_of.ensures (s.inside, s.few)
 
-pub returns : goal.returns
-unfolding read_fault rater_checks
-returns c =
-    let bytes : List ℕ = c.args.book.now in
-    let headed : fault (head_checks bytes) ≡ 0 = sym c.head_fault-head.ensures ∙ c.if-head-ne0.false in
-    let rater : ℕ = c.args.rater in
-    let asked : fault (rater_checks bytes rater) ≡ 0 = sym (found (pass (omega arith) (pass (omega arith) none))) in
-    let laid : tables_fault_lem bytes ≡ 0 = sym c.tables_fault-tables.ensures ∙ c.if-tables-ne0.false in
-    let f = c.fill in
-    let start = c.start_of.ensures in record {
-      value = f.ensures.value ∙ rw start
-          (go headed (go asked (go laid refl)));
-      place_after = f.ensures.place_after ∙ rw start;
-    }
+pub returns-clause-value : goal.returns-clause-value
+returns-clause-value c =
+    rows _ _ c.in_ok-check_head.ensures (omega arith) (omega arith) c.in_ok-check_tables.ensures _ (c.fill.ensures.value ∙ rw c.start_of.ensures)

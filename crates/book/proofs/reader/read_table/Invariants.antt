@@ -15,21 +15,17 @@ use Rattle.book.proofs.reader.read_table.Given as goal
 abbrev pub read : List ℕ → ℕ → ℕ → Table
 read b start i = capped_table (grades_in b (kind_at b start) i (start + 4))
 
-abbrev pub rest : List ℕ → ℕ → ℕ → ℕ → Table
-rest b start at i = grades_in b (kind_at b start) (grades_at b start - i) at
+abbrev pub rest : List ℕ → ℕ → ℕ → Table
+rest b start i = grades_in b (kind_at b start) (grades_at b start - i) (start + 4 + 12 * i)
 
 -- w₀ are the words of the place before the first row, w those before row i.
-pub record Swept (b : List ℕ) (start : ℕ) (w₀ w : List ℕ) (total before at i : ℕ) : Type 0 where
+pub record Swept (b : List ℕ) (start : ℕ) (w₀ w : List ℕ) (total before i : ℕ) : Type 0 where
   pub to : i ≤ grades_at b start
-  pub here : at ≡ start + 4 + 12 * i
   pub small : total ≤ i * 4_294_967_295
   pub long : length w ≡ 122
-  pub faults : later_fault before (rest b start at i) ≡ rows_fault (table_from b start)
+  pub faults : later_fault before (rest b start i) ≡ rows_fault (table_from b start)
   pub sum : total ≡ obligors_in (read b start i)
-  pub whole : columns_after w i (capped_table (rest b start at i)) ≡ columns_after w₀ 0 (capped_table (table_from b start))
+  pub whole : columns_after w i (capped_table (rest b start i)) ≡ columns_after w₀ 0 (capped_table (table_from b start))
 
 abbrev pub invariant-loop-i : goal.invariant-loop-i
-invariant-loop-i l = Swept l.b l.start l.initial.place l.place l.total l.before l.at l.i
-
-abbrev pub decreases-loop-i : goal.decreases-loop-i
-decreases-loop-i l = l.grades - l.i
+invariant-loop-i l = Swept l.b l.start l.initial.place l.place l.total l.before l.i

@@ -1,5 +1,5 @@
 -- `put_rows` meets its contract. The invariant: to store the grades from grade i on is to store all.
-use Prim.Native.Nat.{ℕ, ◌+◌, ◌-◌, ◌*◌, ◌≤◌}
+use Prim.Native.Nat.{ℕ, ◌+◌, ◌*◌, ◌≤◌}
 use mathlib.Core.Path.{◌≡◌}
 use mathlib.Core.List.{List}
 use lib.ListN.{length}
@@ -11,15 +11,11 @@ use Rattle.book.specs.Private.{stored}
 use Rattle.book.specs.Encode.{encode_grades}
 use Rattle.book.proofs.writer.put_rows.Given as goal
 
-pub record Put (p : Place) (whole : List ℕ) (size start : ℕ) (out : List ℕ) (at i : ℕ) : Type 0 where
+pub record Put (p : Place) (whole : List ℕ) (size start : ℕ) (out : List ℕ) (i : ℕ) : Type 0 where
   pub to : i ≤ p.grades
-  pub here : at ≡ start + 12 * i
   pub long : length out ≡ size
-  pub rest : stored out at (encode_grades (suffix p i)) ≡ whole
+  pub rest : stored out (start + 12 * i) (encode_grades (suffix p i)) ≡ whole
 
 abbrev pub invariant-loop-i : goal.invariant-loop-i
 invariant-loop-i l = let p = place_in l.place in
-    Put p (stored l.initial.out l.start (encode_grades (table_of p))) (length l.initial.out) l.start l.out l.at l.i
-
-abbrev pub decreases-loop-i : goal.decreases-loop-i
-decreases-loop-i l = l.grades - l.i
+    Put p (stored l.initial.out l.start (encode_grades (table_of p))) (length l.initial.out) l.start l.out l.i

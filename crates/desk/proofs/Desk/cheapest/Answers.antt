@@ -1,28 +1,19 @@
 -- `cheapest` meets its contract.
-use mathlib.Core.Path.{refl}
-use native.Mathlib.Omega.{arith}
+use Prim.Native.Nat.{ℕ}
+use mathlib.Core.Path.{◌≡◌}
 use Rattle.table.specs.declared.Place.{Place}
 use Rattle.table.specs.Place.{table_of}
 use Rattle.cutoff.specs.Cutoff.{cheapest_of}
-use Rattle.calls.specs.Calls.{cheapest}
-use Rattle.calls.proofs.Answered.{refuses}
-use Rattle.desk.proofs.Number.{there, missing}
-use Rattle.desk.proofs.Asked.{words_place, answered}
+use Rattle.refusals.specs.Answers.{answer, says}
+use Rattle.calls.specs.Calls.{cheapest, question_fault}
+use Rattle.desk.proofs.Number.{on_said, missing}
+use Rattle.desk.proofs.Asked.{on_place}
 use Rattle.desk.proofs.Desk.cheapest.Goals as goal
 
-pub returns-then-not-is_place : goal.returns-then-not-is_place
-returns-then-not-is_place c =
-    record {
-      desk = refl;
-      result_value = refuses 1 _ (missing _ _ _ c.is_place.ensures c.if-not-is_place.true) (λ z. omega arith);
-    }
+pub returns-in_err-check_place-clause-value : goal.returns-in_err-check_place-clause-value
+returns-in_err-check_place-clause-value c = on_said _ _ c.from_residual.ensures.1 (missing _ _ _ c.in_err-check_place.ensures) _
 
-pub cheapest-requires : goal.cheapest-requires
-cheapest-requires c = words_place _ c.args.place c.requires c.words-words.ensures
-
-pub returns : goal.returns
-returns c =
-    let here = there c.args.place _ c.is_place.ensures c.if-not-is_place.false in record {
-      desk = refl;
-      result_value = answered _ c.args.place c.requires c.words-words.ensures here (cheapest c.args.u c.args.v) (λ (p : Place). cheapest_of (table_of p) c.args.u c.args.v) c.cheapest.ensures;
-    }
+pub returns-clause-value : goal.returns-clause-value
+returns-clause-value c =
+    on_place _ c.words.ensures.value c.in_ok-check_place.ensures (λ (p : Place). question_fault p (cheapest c.args.u c.args.v))
+    (λ (n : ℕ) (p : Place). says c.cheapest.result ≡ answer n (cheapest_of (table_of p) c.args.u c.args.v)) c.cheapest.ensures

@@ -1,34 +1,29 @@
 -- `clear` meets its contract.
-use Prim.Native.Nat.{ℕ}
-use mathlib.Core.Path.{◌∙◌, ap}
-use native.Mathlib.Omega.{arith}
-use Rattle.calls.specs.Answers.{answer}
-use Rattle.calls.specs.Calls.{clear}
-use Rattle.calls.proofs.Answered.{left_alone}
-use Rattle.desk.specs.Desk.{place_at}
-use Rattle.desk.proofs.Number.{there, missing}
-use Rattle.desk.proofs.Changed.{length_marked, clear_marked, change_number, change_desk}
 use Rattle.pooled_place.specs.PooledPlace.{empty}
+use Rattle.calls.specs.Calls.{clear}
+use Rattle.desk.specs.Desk.{place_at}
+use Rattle.desk.proofs.Number.{on_number, on_left, missing}
+use Rattle.desk.proofs.Changed.{clear_marked, change_number, change_desk}
 use Rattle.desk.proofs.Desk.clear.Goals as goal
 
-pub stored-requires : goal.stored-requires
-stored-requires c = length_marked (place_at c.args.self c.args.place).loaded c.mark-words.ensures
+pub returns-in_err-check_place : goal.returns-in_err-check_place
+returns-in_err-check_place c =
+    let n = missing _ _ _ c.in_err-check_place.ensures in record { desk_after = on_left _ _ _ n; value = on_number _ _ c.from_residual.ensures.1 n }
 
-pub returns-then-not-is_place : goal.returns-then-not-is_place
-returns-then-not-is_place c =
-    let e = missing _ _ _ c.is_place.ensures c.if-not-is_place.true in record {
-      desk_value = left_alone 1 _ e (λ z. omega arith) c.stored.ensures.desk_value;
-      ack_value = c.stored.ensures.ack_value ∙ ap (λ (m : ℕ). answer m tt) e;
+pub returns-in_err-clear : goal.returns-in_err-clear
+returns-in_err-clear c =
+    let d = c.args.self.now in
+    let same = clear_marked (place_at d c.args.place) c.mark-words.ensures in
+    let n = change_number d c.args.place clear c.in_ok-check_place.ensures _ same c.in_err-clear.ensures.value in record {
+      desk_after = on_left _ _ _ n;
+      value = on_number _ _ c.from_residual-in_err-clear.ensures.1 n;
     }
-
-pub clear-refusal-requires : goal.clear-refusal-requires
-clear-refusal-requires c = length_marked (place_at c.args.self c.args.place).loaded c.mark-words.ensures
 
 pub returns : goal.returns
 returns c =
-    let words = c.mark-words.ensures in
-    let same = clear_marked (place_at c.args.self c.args.place) words in
-    let here = there c.args.place _ c.is_place.ensures c.if-not-is_place.false in record {
-      desk_value = change_desk _ c.args.place clear here c.mark-words.result same (λ _. empty) c.clear-refusal.ensures.value c.clear-refusal.ensures.place_after c.stored-2.ensures.desk_value;
-      ack_value = c.stored-2.ensures.ack_value ∙ ap (λ (m : ℕ). answer m tt) (change_number _ c.args.place clear here c.mark-words.result same c.clear-refusal.ensures.value);
+    let d = c.args.self.now in
+    let same = clear_marked (place_at d c.args.place) c.mark-words.ensures in
+    let ok = c.in_ok-clear.ensures in record {
+      desk_after = change_desk d c.args.place clear c.in_ok-check_place.ensures _ same (λ _. empty) ok.value ok.place_after c.store.ensures;
+      value = change_number d c.args.place clear c.in_ok-check_place.ensures _ same ok.value;
     }

@@ -1,36 +1,34 @@
 -- `load` meets its contract.
-use Prim.Native.Nat.{ℕ}
-use mathlib.Core.Path.{◌∙◌, ap}
-use native.Mathlib.Omega.{arith}
-use Rattle.calls.specs.Answers.{answer}
 use Rattle.calls.specs.Calls.{load}
-use Rattle.calls.proofs.Answered.{left_alone}
 use Rattle.desk.specs.Desk.{place_at}
-use Rattle.desk.proofs.Number.{there, missing}
-use Rattle.desk.proofs.Changed.{length_marked, fillable_marked, load_marked, change_number, change_desk}
+use Rattle.desk.proofs.Number.{on_number, on_left, missing}
+use Rattle.desk.proofs.Changed.{fillable_marked, load_marked, change_number, change_desk}
 use Rattle.desk.proofs.Soundness.{load_sound}
 use Rattle.desk.proofs.Desk.load.Goals as goal
 
-pub stored-requires : goal.stored-requires
-stored-requires c = length_marked (place_at c.args.self c.args.place).loaded c.mark-words.ensures
+pub returns-in_err-check_place : goal.returns-in_err-check_place
+returns-in_err-check_place c =
+    let n = missing _ _ _ c.in_err-check_place.ensures in record { desk_after = on_left _ _ _ n; value = on_number _ _ c.from_residual.ensures.1 n }
 
-pub returns-then-not-is_place : goal.returns-then-not-is_place
-returns-then-not-is_place c =
-    let e = missing _ _ _ c.is_place.ensures c.if-not-is_place.true in record {
-      desk_value = left_alone 1 _ e (λ z. omega arith) c.stored.ensures.desk_value;
-      ack_value = c.stored.ensures.ack_value ∙ ap (λ (m : ℕ). answer m tt) e;
+pub load-requires : goal.load-requires
+load-requires c = fillable_marked (place_at c.args.self.now c.args.place).loaded c.mark-words.ensures
+
+pub returns-in_err-load : goal.returns-in_err-load
+returns-in_err-load c =
+    let d = c.args.self.now in
+    let same = load_marked (place_at d c.args.place) c.args.book.now c.args.rater c.mark-words.ensures in
+    let n = change_number d c.args.place (load c.args.book.now c.args.rater) c.in_ok-check_place.ensures _ same c.in_err-load.ensures.value in record {
+      desk_after = on_left _ _ _ n;
+      value = on_number _ _ c.from_residual-in_err-load.ensures.1 n;
     }
-
-pub load-refusal-requires : goal.load-refusal-requires
-load-refusal-requires c = fillable_marked (place_at c.args.self c.args.place).loaded c.mark-words.ensures
 
 pub returns : goal.returns
 returns c =
-    let words = c.mark-words.ensures in
-    let p = place_at c.args.self c.args.place in
-    let same = load_marked p c.args.book.now c.args.rater words in
-    let sound = load_sound p c.args.book.now c.args.rater in
-    let here = there c.args.place _ c.is_place.ensures c.if-not-is_place.false in record {
-      desk_value = change_desk _ c.args.place (load c.args.book.now c.args.rater) here c.mark-words.result same sound c.load-refusal.ensures.value c.load-refusal.ensures.place_after c.stored-2.ensures.desk_value;
-      ack_value = c.stored-2.ensures.ack_value ∙ ap (λ (m : ℕ). answer m tt) (change_number _ c.args.place (load c.args.book.now c.args.rater) here c.mark-words.result same c.load-refusal.ensures.value);
+    let d = c.args.self.now in
+    let p = place_at d c.args.place in
+    let e = load c.args.book.now c.args.rater in
+    let same = load_marked p c.args.book.now c.args.rater c.mark-words.ensures in
+    let ok = c.in_ok-load.ensures in record {
+      desk_after = change_desk d c.args.place e c.in_ok-check_place.ensures _ same (load_sound p c.args.book.now c.args.rater) ok.value ok.place_after c.store.ensures;
+      value = change_number d c.args.place e c.in_ok-check_place.ensures _ same ok.value;
     }

@@ -1,21 +1,16 @@
 -- `words` meets its contract.
-use mathlib.Core.Path.{◌∙◌, refl, sym, ap}
-use mathlib.Core.Bool.{Bool, cond}
-use borrow.Author.Tests.{ne_eqb}
+use mathlib.Core.Path.{ap, ◌∙◌}
+use Rattle.pooled_place.specs.declared.PooledPlace.{PooledPlace}
 use Rattle.table.specs.Words.{words_of}
-use Rattle.pooled_place.proofs.Words.{sound_place}
+use Rattle.desk.proofs.Asked.{place_sound, words_place, place_is}
 use Rattle.desk.proofs.Desk.words.Goals as goal
 
 pub words-requires : goal.words-requires
-words-requires c = sound_place c.requires.first
+words-requires c = rw c.at.ensures (place_sound c.args.self.now c.args.place c.requires)
 
-pub words-requires-else-place-eq1 : goal.words-requires-else-place-eq1
-words-requires-else-place-eq1 c = sound_place c.requires.second
+pub returns-clause-holds : goal.returns-clause-holds
+returns-clause-holds c =
+    words_place c.args.self.now c.args.place c.requires (c.words.ensures ∙ ap (λ (p : PooledPlace). words_of p.place) c.at.ensures)
 
-pub returns-then-place-eq1 : goal.returns-then-place-eq1
-returns-then-place-eq1 c = c.words.ensures ∙ rw c.if-place-eq1.true refl
-
-pub returns-else-place-eq1 : goal.returns-else-place-eq1
-returns-else-place-eq1 c =
-    let d = c.args.self in
-    c.words-else-place-eq1.ensures ∙ ap (λ (b : Bool). words_of (cond b d.first d.second).place) (sym (ne_eqb c.args.place 1 c.if-place-eq1.false))
+pub returns-clause-value : goal.returns-clause-value
+returns-clause-value c = place_is c.args.self.now c.args.place c.requires (c.words.ensures ∙ ap (λ (p : PooledPlace). words_of p.place) c.at.ensures)

@@ -1,31 +1,25 @@
 -- `event_at` meets its contract.
-use Prim.Native.Nat.{ℕ}
-use mathlib.Core.Path.{sym, ap, subst, ◌∙◌}
-use mathlib.Core.List.{List}
-use borrow.Rule.Slice.PartMut.{put_mid}
-use lib.ListN.{take, drop}
-use Rattle.table.specs.Words.{place_in, table_in}
-use Rattle.pooled_place.specs.PooledPlace.{pooled_place_of}
-use Rattle.pooled_place.specs.Words.{pooled_place_words, IsPooledPlace}
-use Rattle.events.specs.Events.{table_after}
-use Rattle.calls.specs.Answers.{leaves}
-use Rattle.calls.specs.Calls.{event, change_fault}
-use Rattle.desk_c.proofs.Parts.{span, part_changed, event_sound_pooled}
+use mathlib.Core.Path.{ap, ◌∙◌}
+use Rattle.calls.specs.Calls.{event}
+use Rattle.desk.proofs.Number.{on_number, on_left, missing}
+use Rattle.desk_c.specs.Image.{image_of}
+use Rattle.desk_c.proofs.Changed.{part_pooled, image_number, image_changed}
 use Rattle.desk_c.proofs.image.event_at.Goals as goal
 
+pub returns-in_err-at : goal.returns-in_err-at
+returns-in_err-at c =
+    let n = missing _ _ _ c.in_err-at.ensures.number in record {
+      value = on_number _ _ c.from_residual.ensures.1 n;
+      desk_after = c.requires.exact ∙ ap image_of (on_left _ _ _ n);
+    }
+
 pub book_event-requires : goal.book_event-requires
-book_event-requires c = subst (λ (n : ℕ). IsPooledPlace (take n (drop c.args.at c.args.desk.now))) (sym (span c.args.at)) c.requires.1
+book_event-requires c = part_pooled c.requires c.args.place _ c.in_ok-at.ensures.start.0
 
 pub returns : goal.returns
 returns c =
-    let f = c.book_event in
-    let w = c.args.desk.now in
-    let k = c.args.kind in
-    let g = c.args.grade in
-    let s = span c.args.at in
-    let part = ap (λ (n : ℕ). take n (drop c.args.at w)) s in
-    let n = f.ensures.value ∙ ap (λ (x : List ℕ). change_fault (place_in x) (event k g)) part in
-    let new = f.ensures.place_after ∙ ap (λ (x : List ℕ). leaves f.result x (pooled_place_words (pooled_place_of (table_after k g (table_in x))))) part in record {
-      value = n;
-      desk_after = ap (λ (m : ℕ). put_mid c.args.at m w f.new.place) s ∙ part_changed w c.args.at f.result _ (λ z. event_sound_pooled _ k g c.requires.1 (sym n ∙ z)) new;
+    let at = c.in_ok-at.ensures in
+    let e = event c.args.kind c.args.grade in record {
+      value = image_number c.requires c.args.place _ at.start.0 at.number e c.book_event.ensures.value;
+      desk_after = image_changed c.requires c.args.place _ at.start.0 at.number e c.book_event.ensures.value c.book_event.ensures.place_after;
     }

@@ -5,6 +5,3 @@ use Rattle.pooling.proofs.Block.band.Given as goal
 
 abbrev pub invariant-loop-b : goal.invariant-loop-b
 invariant-loop-b l = (band_of l.self ≤ l.b) × (l.b ≤ 14)
-
-abbrev pub decreases-loop-b : goal.decreases-loop-b
-decreases-loop-b l = l.b

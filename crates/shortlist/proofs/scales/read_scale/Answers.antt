@@ -1,32 +1,33 @@
 -- `read_scale` meets its contract.
-use mathlib.Core.Path.{sym, ◌∙◌}
-use Rattle.book.specs.Rows.{table_from}
-use Rattle.shortlist.proofs.Read.{Stored, stored}
+use mathlib.Core.Path.{sym, ap, ◌∙◌}
+use Rattle.table.specs.Table.{Table, defaults_in, survivors_in}
+use Rattle.table.specs.declared.Totals.{Totals}
+use Rattle.table.specs.Counts.{totals_of_lem}
+use Rattle.pooling.specs.Private.{spanning}
+use Rattle.shortlist.proofs.Read.{stored}
 use Rattle.shortlist.proofs.scales.read_scale.Goals as goal
 
-pub returns-then-number-ne0 : goal.returns-then-number-ne0
-returns-then-number-ne0 c =
+pub blocks_of-requires : goal.blocks_of-requires
+blocks_of-requires c =
+    let p = c.requires in
+    let e = c.in_ok-read_table.ensures in
+    (stored c.args.book.now c.args.start p.1 p.2 (sym e.value) e.place_after).holds
+
+pub totals_of-scale-requires : goal.totals_of-scale-requires
+totals_of-scale-requires c =
+    let p = c.requires in
+    let e = c.in_ok-read_table.ensures in
+    (stored c.args.book.now c.args.start p.1 p.2 (sym e.value) e.place_after).holds
+
+pub returns-clause-scale : goal.returns-clause-scale
+unfolding totals_of_lem
+returns-clause-scale c =
+    let p = c.requires in
+    let e = c.in_ok-read_table.ensures in
+    let t = (stored c.args.book.now c.args.start p.1 p.2 (sym e.value) e.place_after).table in
+    let s = c.totals_of-scale.ensures in
     record {
-      value = c.read_table-number.ensures.value;
-      scale = λ z. absurd (c.if-number-ne0.true z);
-      length = c.requires.room;
-    }
-
-pub hold-requires : goal.hold-requires
-hold-requires c =
-    let read : let a = c.args in Stored c.read_table-number.new.place (table_from a.book.now a.start) = let p = c.requires.table in
-    let e = c.read_table-number.ensures in
-    stored _ _ p.1 p.2 (sym e.value ∙ c.if-number-ne0.false) (e.place_after c.if-number-ne0.false) in
-    (read.holds, c.requires.room)
-
-pub returns : goal.returns
-returns c =
-    let read : let a = c.args in Stored c.read_table-number.new.place (table_from a.book.now a.start) = let p = c.requires.table in
-    let e = c.read_table-number.ensures in
-    stored _ _ p.1 p.2 (sym e.value ∙ c.if-number-ne0.false) (e.place_after c.if-number-ne0.false) in
-    let h = c.hold.ensures in
-    let f = c.read_table-number.ensures.value in record {
-      value = sym c.if-number-ne0.false ∙ f;
-      scale = λ z. rw read.table at h;
-      length = h.long;
+      blocks = c.blocks_of.ensures ∙ ap (λ (u : Table). spanning u) t;
+      defaults = ap (λ (x : Totals). x.defaults) s ∙ ap (λ (u : Table). defaults_in u) t;
+      survivors = ap (λ (x : Totals). x.survivors.0) s ∙ ap (λ (u : Table). survivors_in u) t;
     }
