@@ -87,63 +87,72 @@ fn operands_size(operation: u32) -> usize
     }
 }
 
-// The call of an operation with these operands, 0 for those that it does not have.
-fn call_of(operation: u32, operands: &[u8; OPERANDS]) -> Command {
-    let first = number_at(operands, 0);
-    let second = number_at(operands, 4);
-    let third = number_at(operands, 8);
-    let place = first;
-    let call = match operation {
-        1 => Call::Load(Load {
-            place,
-            rater: second,
-            length: third as usize,
+// The operands as they stand, 0 for those that an operation does not have.
+#[derive(Clone, Copy)]
+struct Operands {
+    first: u32,
+    second: u32,
+    third: u32,
+}
+
+// The call of an operation that lends a book or a buffer.
+fn lending(operation: u32, operands: Operands) -> Option<Call> {
+    match operation {
+        1 => Some(Call::Load(Load {
+            place: operands.first,
+            rater: operands.second,
+            length: operands.third as usize,
+        })),
+        3 => Some(Call::Pool {
+            place: operands.first,
+            length: operands.second as usize,
         }),
-        2 => Call::Clear { place },
-        3 => Call::Pool {
+        9 => Some(Call::Write {
+            length: operands.first as usize,
+        }),
+        11 => Some(Call::Shortlist {
+            length: operands.first as usize,
+            book_length: operands.second as usize,
+        }),
+        _ => None,
+    }
+}
+
+// What an operation books.
+fn event_of(operation: u32) -> Option<Event> {
+    match operation {
+        12 => Some(Event::SurvivorEnters),
+        13 => Some(Event::SurvivorLeaves),
+        14 => Some(Event::SurvivorDefaults),
+        15 => Some(Event::DefaultedRemoved),
+        _ => None,
+    }
+}
+
+// The call of an operation, where there is one.
+fn call_of(operation: u32, operands: Operands) -> Option<Call> {
+    let place = operands.first;
+    if let Some(event) = event_of(operation) {
+        return Some(Call::Book {
+            event,
             place,
-            length: second as usize,
-        },
-        4 => Call::Cheapest {
+            grade: operands.second,
+        });
+    }
+    match operation {
+        2 => Some(Call::Clear { place }),
+        4 => Some(Call::Cheapest {
             place,
-            u: second,
-            v: third,
-        },
-        5 => Call::Compare,
-        6 => Call::Measures { place },
-        7 => Call::Brier { place },
-        8 => Call::Spread { place },
-        9 => Call::Write {
-            length: first as usize,
-        },
-        10 => Call::CompareShares,
-        11 => Call::Shortlist {
-            length: first as usize,
-            book_length: second as usize,
-        },
-        12 => Call::Book {
-            event: Event::SurvivorEnters,
-            place,
-            grade: second,
-        },
-        13 => Call::Book {
-            event: Event::SurvivorLeaves,
-            place,
-            grade: second,
-        },
-        14 => Call::Book {
-            event: Event::SurvivorDefaults,
-            place,
-            grade: second,
-        },
-        15 => Call::Book {
-            event: Event::DefaultedRemoved,
-            place,
-            grade: second,
-        },
-        _ => return Command::Broken,
-    };
-    Command::Call(call)
+            u: operands.second,
+            v: operands.third,
+        }),
+        5 => Some(Call::Compare),
+        6 => Some(Call::Measures { place }),
+        7 => Some(Call::Brier { place }),
+        8 => Some(Call::Spread { place }),
+        10 => Some(Call::CompareShares),
+        _ => lending(operation, operands),
+    }
 }
 
 // Reads until the buffer is full or the input ends: how many bytes stand at the start of the buffer. A `while`, since a read says where the next one
@@ -172,10 +181,18 @@ pub fn next<R: Read>(input: &mut R) -> io::Result<Command> {
         return Ok(Command::Broken);
     }
     let operation = number_at(&bytes, 0);
-    let mut operands = [0u8; OPERANDS];
+    bytes = [0u8; OPERANDS];
     let size = operands_size(operation);
-    if read_full(input, &mut operands[..size])? < size {
+    if read_full(input, &mut bytes[..size])? < size {
         return Ok(Command::Broken);
     }
-    Ok(call_of(operation, &operands))
+    let operands = Operands {
+        first: number_at(&bytes, 0),
+        second: number_at(&bytes, 4),
+        third: number_at(&bytes, 8),
+    };
+    Ok(match call_of(operation, operands) {
+        Some(call) => Command::Call(call),
+        None => Command::Broken,
+    })
 }
