@@ -12,6 +12,18 @@ clear = record { says = λ κs a r s. _; promised = λ M 𝓤 𝓛 mem run κs a
 abbrev pub book_event : Promise method.book_event.ended (λ M 𝓤 𝓛. method.book_event.clauses 𝓛)
 book_event = record { says = λ κs a r s. _; promised = λ M 𝓤 𝓛 mem run κs a g r s. next 𝓤 _ _ (last 𝓤 _) }
 
+abbrev pub survivor_enters : Promise method.survivor_enters.ended (λ M 𝓤 𝓛. method.survivor_enters.clauses 𝓛)
+survivor_enters = record { says = λ κs a r s. _; promised = λ M 𝓤 𝓛 mem run κs a g r s. next 𝓤 _ _ (last 𝓤 _) }
+
+abbrev pub survivor_leaves : Promise method.survivor_leaves.ended (λ M 𝓤 𝓛. method.survivor_leaves.clauses 𝓛)
+survivor_leaves = record { says = λ κs a r s. _; promised = λ M 𝓤 𝓛 mem run κs a g r s. next 𝓤 _ _ (last 𝓤 _) }
+
+abbrev pub survivor_defaults : Promise method.survivor_defaults.ended (λ M 𝓤 𝓛. method.survivor_defaults.clauses 𝓛)
+survivor_defaults = record { says = λ κs a r s. _; promised = λ M 𝓤 𝓛 mem run κs a g r s. next 𝓤 _ _ (last 𝓤 _) }
+
+abbrev pub defaulted_removed : Promise method.defaulted_removed.ended (λ M 𝓤 𝓛. method.defaulted_removed.clauses 𝓛)
+defaulted_removed = record { says = λ κs a r s. _; promised = λ M 𝓤 𝓛 mem run κs a g r s. next 𝓤 _ _ (last 𝓤 _) }
+
 abbrev pub pool : Promise method.pool.ended (λ M 𝓤 𝓛. method.pool.clauses 𝓛)
 pool = record { says = λ κs a r s. _; promised = λ M 𝓤 𝓛 mem run κs a g r s. next 𝓤 _ _ (next 𝓤 _ _ (last 𝓤 _)) }
 

@@ -8,6 +8,7 @@ use denote.Triple.Clauses.{Ended, AtExit}
 use Rattle.refusals.specs.Numbers.{number_in}
 use Rattle.refusals.specs.Answers.{leaves, says}
 use Rattle.calls.specs.Calls.{cheapest, measures, brier, spread, pool, load, clear, event}
+use Rattle.events.specs.declared.Event.{Event}
 use Rattle.events.specs.declared.Event.TheVariants.{SurvivorEnters, SurvivorLeaves, SurvivorDefaults, DefaultedRemoved}
 use Rattle.desk.specs.Desk.{fresh_desk}
 use Rattle.desk.specs.declared.Desk.{Desk}
@@ -88,6 +89,21 @@ ServedInC (change i (event DefaultedRemoved g)) =
 
 -- The desk, whose methods only look at it, or change it where it stands.
 
+-- Each event has a method of its own.
+abbrev pub ServedByMethod : ℕ → Event → ℕ → Type 0
+ServedByMethod i SurvivorEnters g =
+    Promises by_desk.survivor_enters
+    (λ κs a r s. a.1.0 ≡ i → a.1.1.0 ≡ g → Serves a.0.now (change i (event SurvivorEnters g)) (number_in r) s.0.now [])
+ServedByMethod i SurvivorLeaves g =
+    Promises by_desk.survivor_leaves
+    (λ κs a r s. a.1.0 ≡ i → a.1.1.0 ≡ g → Serves a.0.now (change i (event SurvivorLeaves g)) (number_in r) s.0.now [])
+ServedByMethod i SurvivorDefaults g =
+    Promises by_desk.survivor_defaults
+    (λ κs a r s. a.1.0 ≡ i → a.1.1.0 ≡ g → Serves a.0.now (change i (event SurvivorDefaults g)) (number_in r) s.0.now [])
+ServedByMethod i DefaultedRemoved g =
+    Promises by_desk.defaulted_removed
+    (λ κs a r s. a.1.0 ≡ i → a.1.1.0 ≡ g → Serves a.0.now (change i (event DefaultedRemoved g)) (number_in r) s.0.now [])
+
 abbrev pub ServedByDesk : Call → Type 0
 ServedByDesk (ask i (cheapest u v)) =
     Promises by_desk.cheapest
@@ -122,3 +138,4 @@ ServedByDesk (change i clear) =
 ServedByDesk (change i (event e g)) =
     Promises by_desk.book_event
     (λ κs a r s. a.1.0 ≡ i → a.1.1.0 ≡ e → a.1.1.1.0 ≡ g → Serves a.0.now (change i (event e g)) (number_in r) s.0.now [])
+    × ServedByMethod i e g

@@ -137,7 +137,7 @@ impl Desk {
         Ok(())
     }
 
-    // Books an event at a grade, the best being 1, of the table in a place.
+    // Books an event at a grade, the best being 1, of the table in a place. Each event has an entry point of its own below.
     pub fn book_event(&mut self, place: u32, kind: Event, grade: u32) -> Result<(), Refusal>
         requires { SoundDesk self.old }
         ensures desk_after { self.new ≡ after self.old (change place (event kind grade)) }
@@ -148,6 +148,42 @@ impl Desk {
         calls::book_event(&mut words, kind, grade)?;
         self.store(place, &words);
         Ok(())
+    }
+
+    // A survivor enters a grade, the best being 1.
+    pub fn survivor_enters(&mut self, place: u32, grade: u32) -> Result<(), Refusal>
+        requires { SoundDesk self.old }
+        ensures desk_after { self.new ≡ after self.old (change place (event Event.SurvivorEnters grade)) }
+        ensures value { number_in result ≡ number_of self.old (change place (event Event.SurvivorEnters grade)) }
+    {
+        self.book_event(place, Event::SurvivorEnters, grade)
+    }
+
+    // A survivor leaves.
+    pub fn survivor_leaves(&mut self, place: u32, grade: u32) -> Result<(), Refusal>
+        requires { SoundDesk self.old }
+        ensures desk_after { self.new ≡ after self.old (change place (event Event.SurvivorLeaves grade)) }
+        ensures value { number_in result ≡ number_of self.old (change place (event Event.SurvivorLeaves grade)) }
+    {
+        self.book_event(place, Event::SurvivorLeaves, grade)
+    }
+
+    // A survivor defaults.
+    pub fn survivor_defaults(&mut self, place: u32, grade: u32) -> Result<(), Refusal>
+        requires { SoundDesk self.old }
+        ensures desk_after { self.new ≡ after self.old (change place (event Event.SurvivorDefaults grade)) }
+        ensures value { number_in result ≡ number_of self.old (change place (event Event.SurvivorDefaults grade)) }
+    {
+        self.book_event(place, Event::SurvivorDefaults, grade)
+    }
+
+    // A defaulted firm is removed.
+    pub fn defaulted_removed(&mut self, place: u32, grade: u32) -> Result<(), Refusal>
+        requires { SoundDesk self.old }
+        ensures desk_after { self.new ≡ after self.old (change place (event Event.DefaultedRemoved grade)) }
+        ensures value { number_in result ≡ number_of self.old (change place (event Event.DefaultedRemoved grade)) }
+    {
+        self.book_event(place, Event::DefaultedRemoved, grade)
     }
 
     // The three numbers of each grade of the table in a place, into a lent buffer whose further numbers are kept.

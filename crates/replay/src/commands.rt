@@ -98,14 +98,24 @@ fn spread<W: Write>(out: &mut W, desk: &Desk, place: u32) -> io::Result<()>
     answers::spread(out, desk.spread(place))
 }
 
-// The call that books an event.
-fn name_of(event: Event) -> &'static str {
-    match event {
-        Event::SurvivorEnters => "survivor_enters",
-        Event::SurvivorLeaves => "survivor_leaves",
-        Event::SurvivorDefaults => "survivor_defaults",
-        Event::DefaultedRemoved => "defaulted_removed",
-    }
+// Books an event, which has a call of its own.
+fn book<W: Write>(
+    out: &mut W,
+    desk: &mut Desk,
+    event: Event,
+    place: u32,
+    grade: u32,
+) -> io::Result<()>
+    requires { SoundDesk desk.old }
+    ensures { SoundDesk desk.new }
+{
+    let (call, booked) = match event {
+        Event::SurvivorEnters => ("survivor_enters", desk.survivor_enters(place, grade)),
+        Event::SurvivorLeaves => ("survivor_leaves", desk.survivor_leaves(place, grade)),
+        Event::SurvivorDefaults => ("survivor_defaults", desk.survivor_defaults(place, grade)),
+        Event::DefaultedRemoved => ("defaulted_removed", desk.defaulted_removed(place, grade)),
+    };
+    answers::done(out, call, booked)
 }
 
 // Makes a call, and prints its answer.
@@ -131,7 +141,7 @@ pub fn run<R: Read, W: Write>(
             event,
             place,
             grade,
-        } => { answers::done(out, name_of(event), desk.book_event(place, event, grade))? }
+        } => book(out, desk, event, place, grade)?,
         Call::Cheapest { place, u, v } => answers::cheapest(out, desk.cheapest(place, u, v))?,
         Call::Compare => answers::compare(out, "compare", desk.compare())?,
         Call::CompareShares => answers::compare(out, "compare_shares", desk.compare_shares())?,
