@@ -307,7 +307,9 @@ pub fn judge(first: &[u32], second: &[u32]) -> Verdict
     judge_scales(Scale::once(ours.as_slice()), Scale::once(theirs.as_slice()))
 }
 
-// Whether a scale costs no more than another at any prices: the blocks of two tables of equally many defaults and equally many survivors.
+// Whether a scale costs no more than another at any prices: the blocks of two tables of equally many defaults and equally many survivors. It is no
+// part of its caller, so that the search has the registers to itself.
+#[inline(never)]
 pub fn never_dearer(first: &[Block], second: &[Block]) -> bool
     requires scales { Sweepable first.now × Sweepable second.now }
     requires defaults { defaults_in (scale_in first.now) ≡ defaults_in (scale_in second.now) }

@@ -151,9 +151,10 @@ pub fn blocks_in(numbers: &[u32], grades: usize, blocks: &mut Blocks)
         obligors: obligors_at(numbers, worst + 1),
         defaults: numbers[worst],
     };
-    for grade in numbers[..worst].rchunks_exact(NUMBERS) {
-        let defaults = grade[0];
-        let obligors = obligors_at(grade, 1);
+    for i in (0..grades - 1).rev() {
+        let at = NUMBERS * i;
+        let defaults = numbers[at];
+        let obligors = obligors_at(numbers, at + 1);
         if x.shows(defaults, obligors) {
             x.grades += 1;
         } else {

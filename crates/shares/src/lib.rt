@@ -5,13 +5,14 @@ ghost use Rattle.std.specs.Prelude.{◌≡◌};
 ghost use Rattle.table.specs.Words.{table_in};
 ghost use Rattle.table.specs.Counts.{totals_of_lem};
 ghost use Rattle.pooled_place.specs.Words.{HoldsPooledTable};
+ghost use Rattle.cutoff.specs.Sweep.{scale_in, Opposed, Finds};
 ghost use Rattle.shares.specs.Judge.{Shareable, total_weights};
 ghost use Rattle.shares.specs.Verdict.{IsVerdictByShares};
 ghost use Rattle.shares.specs.Claims.{Claims};
 
-use cutoff::{Scale, Verdict, Weights, judge_scales};
+use cutoff::{Price, Scale, Verdict, Weights};
 use pooled_place::listed_blocks;
-use pooling::Blocks;
+use pooling::{Block, Blocks};
 use table::Totals;
 
 // The most obligors of a table that is compared on shares.
@@ -26,6 +27,15 @@ fn weights_of(t: Totals) -> Weights
         defaults: t.defaults,
         survivors: t.survivors,
     }
+}
+
+// A block at whose break-even prices a scale costs more than another. It is no part of its caller, so that the search has the registers to itself.
+#[inline(never)]
+fn where_dearer(first: &Scale<'_>, second: &Scale<'_>) -> Option<Block>
+    requires { Opposed first.now.weights second.now.weights first.now.blocks.now second.now.blocks.now }
+    ensures { Finds first.now.weights second.now.weights (scale_in first.now.blocks.now) (scale_in second.now.blocks.now) result }
+{
+    first.where_dearer(*second)
 }
 
 // The verdict on shares on the tables in two lent places, by their pooled lists, whose totals are these.
@@ -52,7 +62,11 @@ pub fn judge(first: &[u32], totals1: Totals, second: &[u32], totals2: Totals) ->
         blocks: theirs.as_slice(),
         weights: weights2,
     };
-    judge_scales(first_scale, second_scale)
+    let first_found = where_dearer(&first_scale, &second_scale);
+    let second_found = where_dearer(&second_scale, &first_scale);
+    let first_dearer = Price::at_break_even(first_found, weights2);
+    let second_dearer = Price::at_break_even(second_found, weights1);
+    Verdict::of(first_dearer, second_dearer)
 }
 
 // What is claimed of the comparison on shares: the function does nothing, its contract is all claims of this crate.
