@@ -73,7 +73,7 @@ fn best_end(sums: &[Sums; POINTS], values: &[u64; POINTS], i: usize, last: usize
     let first = i + 1;
     let mut end = first;
     let mut value = added(sums, values, i, first);
-    for e in first + 1..=last {
+    for e in first + 1..last + 1 {
         let here = added(sums, values, i, e);
         if value < here {
             value = here;

@@ -54,15 +54,5 @@ loop-e-preserved c =
       | else-value-here w ↦ rw (e, w.end-is, w.value-is) (left t (omega arith) (omega arith) c.added-here.ensures w.if-value-here.false)
     ]
 
-pub returns-after-value-here : goal.returns-after-value-here
-returns-after-value-here c =
-    let t = c.loop-e.invariant in
-    elim c.if-value-here.branch [
-      | then-value-here w ↦ rw (w.end-is, w.value-is)
-          (best (taken t (omega arith) (omega arith) c.added-here.ensures w.if-value-here.true) (omega arith))
-      | else-value-here w ↦ rw (w.end-is, w.value-is)
-          (best (left t (omega arith) (omega arith) c.added-here.ensures w.if-value-here.false) (omega arith))
-    ]
-
 pub returns : goal.returns
 returns c = best c.loop-e.invariant (omega arith)
