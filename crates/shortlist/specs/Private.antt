@@ -3,7 +3,8 @@
 -- from 0 here.
 use Rattle.std.specs.Prelude.{ℕ, zero, suc, ◌≤◌, ◌<◌, ◌≡◌, Bool, true, false, not, cond, ◌||◌, List, [], ◌∷◌, eqb, map, length, get_or, set, take, replicate}
 use Rattle.std.specs.List.{list_any}
-use Rattle.table.specs.Table.{Table, defaults_in, survivors_in}
+use Rattle.table.specs.Table.{Table, defaults_in, survivors_in, obligors_in}
+use Rattle.table.specs.declared.Totals.{Totals}
 use Rattle.pooling.specs.Private.{listed, spanning}
 use Rattle.cutoff.specs.Sweep.{scale_in, Sweepable}
 use Rattle.shortlist.specs.Shortlist.{better, numbers_of_lem}
@@ -18,6 +19,11 @@ pub record Holds (s : Scale) (t : Table) : Type 0 where
   pub blocks : listed s.blocks ≡ spanning t
   pub defaults : s.totals.defaults ≡ defaults_in t
   pub survivors : s.totals.survivors.0 ≡ survivors_in t
+  pub obligors : s.totals.obligors.0 ≡ obligors_in t
+
+-- nobody's
+abbrev pub no_totals : Totals
+no_totals = record { defaults = 0; survivors = record { 0 = 0 }; obligors = record { 0 = 0 } }
 
 -- The scales are those of raters with these tables, in their order.
 abbrev pub HoldsAll : List Scale → List Table → Type 0

@@ -1,11 +1,12 @@
 // The pooled scales of all raters of a book, each read and pooled once.
-ghost use Rattle.std.specs.Prelude.{◌≤◌, ◌≡◌, length, OnOk};
+ghost use Rattle.std.specs.Prelude.{◌≤◌, ◌≡◌, [], length, OnOk};
 ghost use Rattle.refusals.specs.Numbers.{number_in};
 ghost use Rattle.book.specs.Layout.{raters, grades_at, end_of, layout_fault};
 ghost use Rattle.book.specs.Rows.{table_from, table_fault_lem};
 ghost use Rattle.book.specs.Reading.{all_tables, table_faults};
 ghost use Rattle.std.specs.List.{list_any};
-ghost use Rattle.shortlist.specs.Private.{Holds, HoldsAll, no_defaults, no_survivors, other_totals, held_totals_fault};
+ghost use Rattle.pooling.specs.Private.{listed};
+ghost use Rattle.shortlist.specs.Private.{Holds, HoldsAll, no_totals, no_defaults, no_survivors, other_totals, held_totals_fault};
 
 use book::{read_table, start_of};
 use pooling::{Blocks, blocks_of};
@@ -21,7 +22,10 @@ pub struct Scale {
 
 impl Scale {
     // Nobody's, until one is read.
-    pub fn none() -> Scale {
+    pub fn none() -> Scale
+        ensures blocks { listed result.blocks ≡ [] }
+        ensures totals { result.totals ≡ no_totals }
+    {
         Scale {
             blocks: Blocks::none(),
             totals: Totals {

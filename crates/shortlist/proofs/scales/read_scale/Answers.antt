@@ -1,6 +1,6 @@
 -- `read_scale` meets its contract.
 use mathlib.Core.Path.{sym, ap, ◌∙◌}
-use Rattle.table.specs.Table.{Table, defaults_in, survivors_in}
+use Rattle.table.specs.Table.{Table, defaults_in, survivors_in, obligors_in}
 use Rattle.table.specs.declared.Totals.{Totals}
 use Rattle.table.specs.Counts.{totals_of_lem}
 use Rattle.pooling.specs.Private.{spanning}
@@ -30,4 +30,5 @@ returns-clause-scale c =
       blocks = c.blocks_of.ensures ∙ ap (λ (u : Table). spanning u) t;
       defaults = ap (λ (x : Totals). x.defaults) s ∙ ap (λ (u : Table). defaults_in u) t;
       survivors = ap (λ (x : Totals). x.survivors.0) s ∙ ap (λ (u : Table). survivors_in u) t;
+      obligors = ap (λ (x : Totals). x.obligors.0) s ∙ ap (λ (u : Table). obligors_in u) t;
     }
